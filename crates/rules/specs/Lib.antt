@@ -1,0 +1,15 @@
+pub mod Counting
+pub mod Extents
+pub mod Blocks
+pub mod Lent
+pub mod Shape
+pub mod Sound
+pub mod Device
+pub mod Placement
+pub mod Reclaim
+pub mod Read
+pub mod Answers
+pub mod Number
+pub mod Calls
+pub mod Cases
+pub mod Marked

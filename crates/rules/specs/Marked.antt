@@ -1,0 +1,170 @@
+-- P1 to P12 of document 01: one table, one statement about the definitions, and one law that gives each row's equation.
+use Prim.Native.Nat.{ℕ, zero, suc, _<_}
+use mathlib.Core.Bool.{Bool, true, false, _&&_, false≢true}
+use mathlib.Core.Path.{_≡_, refl, ap₂}
+use mathlib.Core.List.{List, [], _∷_, _++_}
+use native.Mathlib.Omega.{arith}
+use borrow.Author.Tests.{eqb-true}
+use lib.Dec.{eqb}
+use lib.ListN.{length, getD, replicate}
+use Rattle.rules.specs.Counting.{sum, count, all, first, most, picks, tabulate, among}
+use Rattle.rules.specs.Extents.{lookup, joinable, join, runs, slots, flat}
+use Rattle.rules.specs.Blocks.{records}
+use Rattle.rules.specs.Shape.{sizes, lengths, shape, shaped}
+use Rattle.rules.specs.Sound.{rule1, rule2, rule3, rule4, mappedIn, rule5, rule6, sound}
+use Rattle.rules.specs.Device.{mapped, named, valid, staleIn, stale, live, room, free, extents, tableOf, deviceOf, headOf, wordsOf}
+use Rattle.rules.specs.Placement.{putAt, putsAt, placesAt, target, targets, puts, places, pieces}
+use Rattle.rules.specs.Reclaim.{victim, sources, goes, copied, moved, reclaimedAt, reclaimed}
+use Rattle.rules.specs.Read.{hole, holes, found}
+use Rattle.rules.specs.Number.{applied, judged, withTable, numbered, written, trimmed}
+use Rattle.rules.specs.Answers.{refuse}
+use Rattle.rules.specs.Calls.{Call, outside, tooMany, writeRefusal, trimRefusal, readRefusal, reclaimRefusal, refusal, counts, leaves, lists, over, refused, verdict, acceptedOn, call, freshDevice, sizesOnly, fresh}
+use Rattle.rules.specs.Cases.{Case, Step, Ask, step, told, asked, next, run, seen, start, comes, musts, same, sames, holds}
+
+-- ---- the requests of the cases, with answer buffers of 48 words
+
+abbrev room48 : List ℕ
+room48 = replicate 48 0
+
+abbrev write : ℕ → ℕ → ℕ → Call
+write k l n = Call.write k l n room48
+
+abbrev trim : ℕ → ℕ → ℕ → Call
+trim k l n = Call.trim k l n
+
+abbrev answer : Call → List ℕ → Step
+answer c must = step (Ask.answer c) must
+
+abbrev theMap : List ℕ → Step
+theMap must = step Ask.theMap must
+
+abbrev theReserve : ℕ → Step
+theReserve r = step Ask.theReserve (r ∷ [])
+
+-- free, live, stale
+abbrev report : ℕ → ℕ → ℕ → Step
+report f l s = answer Call.report (0 ∷ f ∷ l ∷ s ∷ [])
+
+abbrev reclaim : List ℕ → Step
+reclaim must = answer (Call.reclaim room48) must
+
+-- "Unless said, B=4, N=16, L=32, M=16"
+abbrev usual : List Call → List Step → Case
+usual before steps = record { blocks = 4; pages = 16; logical = 32; slots = 16; before = before; steps = steps }
+
+abbrev p3 : List Call
+p3 = write 1 0 2 ∷ write 2 4 1 ∷ write 3 10 4 ∷ write 4 6 1 ∷ write 5 11 2 ∷ write 6 7 1 ∷ write 7 9 1 ∷ []
+
+abbrev p6 : List Call
+p6 = p3 ++ Call.reclaim room48 ∷ []
+
+abbrev p8 : List Call
+p8 = p6 ++ write 8 0 16 ∷ []
+
+-- ---- the table
+
+abbrev pub marked : List Case
+marked =
+    -- P1
+    usual [] (theReserve 3 ∷ report 48 0 0 ∷ [])
+    -- P2
+    ∷ usual [] (answer (write 1 0 2) (0 ∷ 1 ∷ 0 ∷ 0 ∷ 2 ∷ []) ∷ [])
+    -- P3
+    ∷ usual p3 (
+    theMap (0 ∷ 0 ∷ 2 ∷ 4 ∷ 2 ∷ 1 ∷ 6 ∷ 7 ∷ 1 ∷ 7 ∷ 10 ∷ 1 ∷ 9 ∷ 11 ∷ 1 ∷ 10 ∷ 3 ∷ 1 ∷ 11 ∷ 8 ∷ 2 ∷ 13 ∷ 6 ∷ 1 ∷ [])
+    ∷ report 36 10 2 ∷ [])
+    -- P4
+    ∷ usual p3 (report 36 10 2 ∷ answer (write 7 9 1) (4 ∷ 0 ∷ []) ∷ report 36 10 2 ∷ [])
+    -- P5
+    ∷ usual p3 (
+    answer (Call.read 9 6 room48)
+    (0 ∷ 5 ∷ 9 ∷ 11 ∷ 1 ∷ 10 ∷ 3 ∷ 1 ∷ 11 ∷ 8 ∷ 2 ∷ 13 ∷ 6 ∷ 1 ∷ 14 ∷ 4294967295 ∷ 1 ∷ []) ∷ [])
+    -- P6
+    ∷ usual p3 (
+    reclaim (0 ∷ 10 ∷ 0 ∷ 1 ∷ 2 ∷ 3 ∷ 6 ∷ 7 ∷ 8 ∷ 9 ∷ 10 ∷ 11 ∷ [])
+    ∷ theMap (0 ∷ 48 ∷ 2 ∷ 4 ∷ 50 ∷ 1 ∷ 6 ∷ 53 ∷ 1 ∷ 7 ∷ 56 ∷ 1 ∷ 9 ∷ 57 ∷ 1 ∷ 10 ∷ 51 ∷ 1 ∷ 11 ∷ 54 ∷ 2 ∷ 13 ∷ 52 ∷ 1 ∷ [])
+    ∷ theReserve 0 ∷ report 38 10 0 ∷ [])
+    -- P7
+    ∷ usual p6 (reclaim (8 ∷ 0 ∷ []) ∷ [])
+    -- P8
+    ∷ usual p6 (answer (write 8 0 16) (0 ∷ 1 ∷ 0 ∷ 16 ∷ 16 ∷ []) ∷ theMap (0 ∷ 16 ∷ 16 ∷ []) ∷ report 22 16 10 ∷ [])
+    -- P9
+    ∷ usual p8 (answer (trim 9 5 1) (0 ∷ []) ∷ theMap (0 ∷ 16 ∷ 5 ∷ 6 ∷ 22 ∷ 10 ∷ []) ∷ report 22 15 11 ∷ [])
+    -- P10
+    ∷ record {
+      blocks = 4;
+      pages = 16;
+      logical = 32;
+      slots = 1;
+      before = write 1 0 16 ∷ [];
+      steps = answer (trim 2 5 1) (6 ∷ []) ∷ answer (trim 2 0 16) (0 ∷ []) ∷ [];
+    }
+    -- P11
+    ∷ usual (write 1 0 10 ∷ []) (
+    answer (write 2 10 16) (0 ∷ 2 ∷ 10 ∷ 10 ∷ 6 ∷ 16 ∷ 16 ∷ 10 ∷ [])
+    ∷ theMap (0 ∷ 0 ∷ 16 ∷ 16 ∷ 16 ∷ 10 ∷ []) ∷ [])
+    -- P12
+    ∷ record {
+      blocks = 3;
+      pages = 1;
+      logical = 1;
+      slots = 1;
+      before = [];
+      steps =
+          answer (write 1 0 1) (0 ∷ 1 ∷ 0 ∷ 0 ∷ 1 ∷ [])
+          ∷ answer (write 2 0 1) (0 ∷ 1 ∷ 0 ∷ 1 ∷ 1 ∷ [])
+          ∷ answer (write 3 0 1) (5 ∷ 0 ∷ [])
+          ∷ reclaim (0 ∷ 0 ∷ [])
+          ∷ theReserve 0
+          ∷ answer (write 3 0 1) (0 ∷ 1 ∷ 0 ∷ 2 ∷ 1 ∷ []) ∷ [];
+    }
+    ∷ []
+
+-- ---- the statement
+
+pub marked-holds : holds marked ≡ true
+unfolding sum count all first most picks tabulate among
+    lookup joinable join runs slots flat records sizes lengths shape shaped
+    rule1 rule2 rule3 rule4 mappedIn rule5 rule6 sound
+    mapped named valid staleIn stale live room free extents tableOf deviceOf headOf wordsOf
+    putAt putsAt placesAt target targets puts places pieces
+    victim sources goes copied moved reclaimedAt reclaimed hole holes found
+    applied judged withTable numbered written trimmed refuse
+    outside tooMany writeRefusal trimRefusal readRefusal reclaimRefusal refusal counts leaves lists over refused
+    verdict acceptedOn call freshDevice sizesOnly fresh
+    told asked next run seen start comes musts same sames holds
+marked-holds = refl
+
+-- ---- the law: each row of a table that holds comes out as it must
+
+both : (a b : Bool) → (a && b) ≡ true → (a ≡ true) × (b ≡ true)
+both true b e = (refl, e)
+both false b e = absurd (false≢true e)
+
+pub same-is : (xs ys : List ℕ) → same xs ys ≡ true → xs ≡ ys
+unfolding same
+same-is [] [] e = refl
+same-is [] (y ∷ ys) e = absurd (false≢true e)
+same-is (x ∷ xs) [] e = absurd (false≢true e)
+same-is (x ∷ xs) (y ∷ ys) e =
+    let t = both (eqb x y) (same xs ys) e in
+    ap₂ (λ (a : ℕ) (r : List ℕ). a ∷ r) (eqb-true x y (t .0)) (same-is xs ys (t .1))
+
+pub sames-is : (xs ys : List (List ℕ)) → sames xs ys ≡ true → xs ≡ ys
+unfolding sames
+sames-is [] [] e = refl
+sames-is [] (y ∷ ys) e = absurd (false≢true e)
+sames-is (x ∷ xs) [] e = absurd (false≢true e)
+sames-is (x ∷ xs) (y ∷ ys) e =
+    let t = both (same x y) (sames xs ys) e in
+    ap₂ (λ (a : List ℕ) (r : List (List ℕ)). a ∷ r) (same-is x y (t .0)) (sames-is xs ys (t .1))
+
+pub row-holds : (cs : List Case) → holds cs ≡ true → (i : ℕ) (c : Case) → i < length cs → comes (getD cs i c) ≡ musts (getD cs i c)
+unfolding holds
+row-holds [] e i c h = absurd (omega arith)
+row-holds (x ∷ xs) e zero c h = sames-is (comes x) (musts x) (both (sames (comes x) (musts x)) (holds xs) e .0)
+row-holds (x ∷ xs) e (suc i) c h = row-holds xs (both (sames (comes x) (musts x)) (holds xs) e .1) i c (omega arith)
+
+-- P(i + 1)
+pub marked-row : (i : ℕ) (c : Case) → i < length marked → comes (getD marked i c) ≡ musts (getD marked i c)
+marked-row i c h = row-holds marked marked-holds i c h

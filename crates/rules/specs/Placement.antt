@@ -1,0 +1,57 @@
+-- Where a write's pages go, and the device with them put there. The order of the blocks is `targets`, and nothing else knows it.
+use Prim.Native.Nat.{ℕ, zero, suc, _+_, _*_}
+use mathlib.Core.Bool.{Bool, not, _&&_}
+use mathlib.Core.List.{List, [], _∷_}
+use lib.Dec.{eqb, ltb}
+use lib.ListN.{set}
+use Rattle.rules.specs.Counting.{first}
+use Rattle.rules.specs.Extents.{runs}
+use Rattle.rules.specs.Device.{Device, blocks, fill}
+use Rattle.rules.specs.declared.Extent.{Extent}
+
+-- ---- one page
+
+-- line l goes to the page at the fill of block b: the page's label is l, and the fill is one more
+unfoldable pub putAt : ℕ → ℕ → Device → Device
+putAt b l d =
+    let page = b * d .pages + fill d b in
+    record {
+      pages = d .pages;
+      slots = d .slots;
+      table = set (d .table) l page;
+      fills = set (d .fills) b (suc (fill d b));
+      spare = set (d .spare) page l;
+      reserve = d .reserve;
+      last = d .last;
+    }
+
+-- ---- lines l, l + 1, .., each to the block that the list gives it
+
+unfoldable pub putsAt : ℕ → List ℕ → Device → Device
+putsAt l [] d = d
+putsAt l (b ∷ bs) d = putsAt (suc l) bs (putAt b l d)
+
+-- the pages that they take
+unfoldable pub placesAt : ℕ → List ℕ → Device → List ℕ
+placesAt l [] d = []
+placesAt l (b ∷ bs) d = (b * d .pages + fill d b) ∷ placesAt (suc l) bs (putAt b l d)
+
+-- ---- 01, write: pages are taken one at a time from the lowest-numbered block, not the reserve, whose fill is below N
+
+unfoldable pub target : Device → ℕ
+target d = first (blocks d) (λ b. not (eqb b (d .reserve)) && ltb (fill d b) (d .pages))
+
+-- the block of each of n pages
+unfoldable pub targets : ℕ → ℕ → Device → List ℕ
+targets l zero d = []
+targets l (suc n) d = let b = target d in b ∷ targets (suc l) n (putAt b l d)
+
+unfoldable pub puts : ℕ → ℕ → Device → Device
+puts l n d = putsAt l (targets l n d) d
+
+unfoldable pub places : ℕ → ℕ → Device → List ℕ
+places l n d = placesAt l (targets l n d) d
+
+-- 01, write: the answer lists one (l, p, count) per block used, in order, before joining: the new pages by themselves
+unfoldable pub pieces : ℕ → ℕ → Device → List Extent
+pieces l n d = runs (d .pages) l (places l n d)
