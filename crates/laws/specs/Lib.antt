@@ -1,0 +1,4 @@
+pub mod Bools
+pub mod Sums
+pub mod Picks
+pub mod Cells
