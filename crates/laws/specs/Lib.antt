@@ -12,3 +12,5 @@ pub mod Insert
 pub mod Put
 pub mod Norm
 pub mod Read
+pub mod Slots
+pub mod Counts

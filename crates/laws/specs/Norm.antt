@@ -6,9 +6,8 @@ use mathlib.Core.Bool.{Bool, true, cond}
 use mathlib.Core.Logic.{by-cases}
 use native.Mathlib.Omega.{arith}
 use native.Mathlib.Decide.{decLt, ℕ-discrete}
-use native.Mathlib.Nat.{div-add-mod'}
 use borrow.Author.Tests.{eq-eqb, ne-eqb}
-use lib.Arith.{digits-div, digits-mod}
+use lib.Arith.{digits-mod}
 use lib.Dec.{eqb}
 use lib.ListN.{length, getD, length-map, List·getD-map}
 use Rattle.rules.specs.Counting.{one, count}
@@ -102,9 +101,13 @@ move-runs n z g eq t w s =
 
 -- ---- the move of a reclaim: the live pages of block v, in physical order, to block r
 
--- where page p goes; live says which offsets of v are live
+-- where page p goes; live says which offsets of v are live. This is `goes`, apart from the device
 unfoldable pub movesTo : ℕ → (ℕ → Bool) → ℕ → ℕ → ℕ → ℕ
 movesTo n live v r p = cond (eqb (p / n) v) (r * n + count (p % n) live) p
+
+pub goes-moves : (v r : ℕ) (d : Device) (p : ℕ) → goes v r d p ≡ movesTo (d .pages) (named d v) v r p
+unfolding goes movesTo
+goes-moves v r d p = refl
 
 count-along : (live : ℕ → Bool) (m i j : ℕ) → ((h : ℕ) → h < i → live (m + h) ≡ true) → j ≡ m + i → count j live ≡ count m live + i
 unfolding count
@@ -146,7 +149,7 @@ movesTo-steady n z live v r e lo q b h s =
       small = rw (movesTo-else n live v r (e .physical) eq) (h .small);
     })
 
--- all pieces, where every page that they name in v is live
+-- all extents, where every page that they name in v is live
 pub movesTo-steadies : (n : ℕ) → 0 < n → (live : ℕ → Bool) (v r hi : ℕ) (es : List Extent) (lo q : ℕ) → suc r * n ≤ none → Rows n lo q hi es
     → ((l : ℕ) → (lookup es l ≡ none → ⊥) → lookup es l / n ≡ v → live (lookup es l % n) ≡ true) → Steadies n (movesTo n live v r) es
 movesTo-steadies n z live v r hi [] lo q b h s = tt

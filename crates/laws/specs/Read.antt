@@ -1,12 +1,11 @@
 -- A read: the extents of a range of the table are the table's extents, clipped to that range.
-use Prim.Native.Nat.{ℕ, suc, _+_, _-_, _≤_, _<_}
-use mathlib.Core.Path.{_≡_, refl, sym, _∙_}
-use mathlib.Core.List.{List, [], _∷_, _++_}
-use mathlib.Core.Bool.{true, false, cond}
+use Prim.Native.Nat.{ℕ, _+_, _-_, _≤_, _<_}
+use mathlib.Core.Path.{_≡_, sym, ap, _∙_}
+use mathlib.Core.List.{List}
 use mathlib.Core.Logic.{by-cases}
 use native.Mathlib.Omega.{arith}
 use native.Mathlib.Decide.{decLt}
-use lib.ListN.{length, getD, take, drop, length-take, length-drop, length-append, List·getD-eq-default}
+use lib.ListN.{length, getD, take, drop, length-take, length-drop, List·getD-eq-default}
 use lib.Seq.{getD-take, getD-drop}
 use Rattle.rules.specs.Extents.{none, runs}
 use Rattle.rules.specs.Device.{Device, lines, extents}
@@ -39,3 +38,8 @@ window n z a c t f w =
         (λ g. omega (arith, at i g, w (a + i)))
         (λ g. omega (arith, List·getD-eq-default part none {n = i} (omega (arith, size))))
 
+-- what a read answers: the map's extents, clipped to the range, and the holes between them
+pub found-window : (l n : ℕ) (d : Device) → 0 < d .pages → l + n ≤ lines d → Words (d .table)
+    → found l n d ≡ holes l (l + n) (below (l + n) (from l (extents d)))
+unfolding found extents
+found-window l n d z h w = ap (holes l (l + n)) (sym (window (d .pages) z l n (d .table) h w))
