@@ -28,27 +28,27 @@ unfoldable pub cut : ℕ → ℕ → List Extent → List Extent
 cut a b es = below a es ++ from b es
 
 module _ (a : ℕ) (e : Extent) (es : List Extent) where
-  below-none : a ≤ e .logical → below a (e ∷ es) ≡ []
+  pub below-none : a ≤ e .logical → below a (e ∷ es) ≡ []
   unfolding below
   below-none h = rw (le-leb a (e .logical) h)
 
-  below-part : e .logical < a → a < e .logical + e .count → below a (e ∷ es) ≡ extent (e .logical) (e .physical) (a - e .logical) ∷ []
+  pub below-part : e .logical < a → a < e .logical + e .count → below a (e ∷ es) ≡ extent (e .logical) (e .physical) (a - e .logical) ∷ []
   unfolding below
   below-part h t = rw (lt-leb a (e .logical) h, lt-ltb a (e .logical + e .count) t)
 
-  below-all : e .logical < a → e .logical + e .count ≤ a → below a (e ∷ es) ≡ e ∷ below a es
+  pub below-all : e .logical < a → e .logical + e .count ≤ a → below a (e ∷ es) ≡ e ∷ below a es
   unfolding below
   below-all h t = rw (lt-leb a (e .logical) h, le-ltb a (e .logical + e .count) t)
 
-  from-none : e .logical + e .count ≤ a → from a (e ∷ es) ≡ from a es
+  pub from-none : e .logical + e .count ≤ a → from a (e ∷ es) ≡ from a es
   unfolding from
   from-none h = rw (le-leb (e .logical + e .count) a h)
 
-  from-part : e .logical < a → a < e .logical + e .count → from a (e ∷ es) ≡ extent a (e .physical + (a - e .logical)) (e .logical + e .count - a) ∷ es
+  pub from-part : e .logical < a → a < e .logical + e .count → from a (e ∷ es) ≡ extent a (e .physical + (a - e .logical)) (e .logical + e .count - a) ∷ es
   unfolding from
   from-part h t = rw (lt-leb (e .logical + e .count) a t, lt-ltb (e .logical) a h)
 
-  from-all : a ≤ e .logical → a < e .logical + e .count → from a (e ∷ es) ≡ e ∷ es
+  pub from-all : a ≤ e .logical → a < e .logical + e .count → from a (e ∷ es) ≡ e ∷ es
   unfolding from
   from-all h t = rw (lt-leb (e .logical + e .count) a t, le-ltb (e .logical) a h)
 
