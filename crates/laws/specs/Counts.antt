@@ -116,3 +116,87 @@ pub trim-count : (n : ℕ) → 0 < n → (l c : ℕ) (t : List ℕ) → 0 < c �
 trim-count n z l c t p f w =
     ap length (sym (trim-cut n z l c t p f w))
     ∙ cut-length n (length t) l (l + c) (runs n 0 t) (runs-rows n z t 0 (length t) w (omega arith))
+
+-- ---- the write: where new extents meet what lies after them
+
+-- the physical page behind the last extent, or q where there is none
+unfoldable pub tip : ℕ → List Extent → ℕ
+tip q [] = q
+tip q (e ∷ es) = tip (e .physical + e .count) es
+
+-- what goes on at lo with page q begins a block
+rows-meet : (n hi : ℕ) (es : List Extent) (lo p lo′ q : ℕ) → lo′ ≤ lo → Rows n lo p hi es → (lookup es lo ≡ q → q % n ≡ 0) → Rows n lo′ q hi es
+rows-meet n hi [] lo p lo′ q g h m = omega arith
+rows-meet n hi (e ∷ es) lo p lo′ q g h m = (
+  record {
+    above = omega arith;
+    some = h .0 .some;
+    inside = h .0 .inside;
+    small = h .0 .small;
+    apart = λ a b. subst (λ (x : ℕ). x % n ≡ 0) (sym b) (m (lookup-in e es lo (omega arith) (omega arith) ∙ omega arith));
+  },
+  h .1,
+)
+
+rows-chain : (n m hi : ℕ) (xs ys : List Extent) (lo q p : ℕ) → Rows n lo q m xs → Rows n m p hi ys → (lookup ys m ≡ tip q xs → tip q xs % n ≡ 0) → Rows n lo q hi (xs ++ ys)
+unfolding tip
+rows-chain n m hi [] ys lo q p h t k = rows-meet n hi ys m p lo q h t k
+rows-chain n m hi (x ∷ xs) ys lo q p h t k = (h .0, rows-chain n m hi xs ys _ _ p (h .1) t k)
+
+-- where nothing is joinable, glue only chains
+glue-chain : (n hi : ℕ) (xs ys : List Extent) (lo q : ℕ) → Rows n lo q hi (xs ++ ys) → glue n xs ys ≡ xs ++ ys
+unfolding glue join
+glue-chain n hi [] ys lo q h = refl
+glue-chain n hi (x ∷ xs) ys lo q h = ap (join n x) (glue-chain n hi xs ys _ _ (h .1)) ∙ first (xs ++ ys) (h .1)
+  where
+    first : (zs : List Extent) → Rows n (x .logical + x .count) (x .physical + x .count) hi zs → join n x zs ≡ x ∷ zs
+    first [] r = refl
+    first (z ∷ zs) r = join-apart n x z zs (joinable-first n x z (h .0 .some) (r .0 .apart))
+
+-- ---- and what lies before them
+
+joinable-count : (n : ℕ) (x z : Extent) (c : ℕ) → joinable n x (extent (z .logical) (z .physical) c) ≡ joinable n x z
+unfolding joinable
+joinable-count n x z c = refl
+
+-- an extent that was not joinable with z is not joinable with what z has become
+join-next : (n : ℕ) (x z : Extent) (ys : List Extent) → joinable n x z ≡ false → join n x (join n z ys) ≡ x ∷ join n z ys
+unfolding join
+join-next n x z [] e = join-apart n x z [] e
+join-next n x z (y ∷ ys) e =
+    cases (joinable n z y)
+    (λ f. rw (join-joined n z y ys f)
+    (join-apart n x (extent (z .logical) (z .physical) (z .count + y .count)) ys (joinable-count n x z (z .count + y .count) ∙ e)))
+    (λ f. rw (join-apart n z y ys f) (join-apart n x z (y ∷ ys) e))
+
+-- each extent joined is one less
+glue-length : (n m : ℕ) (xs : List Extent) (f : Extent) (ys : List Extent) (lo q : ℕ) → Rows n lo q m xs → m ≤ f .logical
+    → length (glue n xs (f ∷ ys)) + leftJoin n f xs ≡ length xs + suc (length ys)
+unfolding glue tally
+glue-length n m [] f ys lo q h s = omega arith
+glue-length n m (x ∷ []) f ys lo q h s =
+    cases (joinable n x f)
+    (λ e. rw (join-joined n x f ys e) (omega (arith, ap one e)))
+    (λ e. rw (join-apart n x f ys e) (omega (arith, ap one e)))
+glue-length n m (x ∷ z ∷ zs) f ys lo q h s =
+    let g = rows-le n m zs _ _ (h .1 .1) in
+    let apart = joinable-first n x z (h .0 .some) (h .1 .0 .apart) in
+    rw (join-next n x z (glue n zs (f ∷ ys)) apart)
+    (omega (arith, ap one (not-next n x f (omega arith)), glue-length n m (z ∷ zs) f ys _ _ (h .1) s))
+
+-- the part of an extent that a cut leaves before a is joinable with f only where f's page was a's before
+below-joins : (n hi a : ℕ) (f : Extent) (es : List Extent) (lo q : ℕ) → Rows n lo q hi es → f .logical ≡ a → (lookup es a ≡ f .physical → f .physical % n ≡ 0)
+    → leftJoin n f (below a es) ≡ leftJoin n f es
+unfolding below tally
+below-joins n hi a f [] lo q h d m = refl
+below-joins n hi a f (e ∷ es) lo q h d m =
+    by-cases (decLt a (e .logical + e .count))
+    (λ s. let no = ap one (not-next n e f (omega arith)) in
+    let rest = joins-none n hi f es _ _ (h .1) (omega arith) in
+    by-cases (decLt (e .logical) a)
+    (λ t. let left = extent (e .logical) (e .physical) (a - e .logical) in
+    rw (below-part a e es t s) (omega (arith, ap one (joinable-first n left f (omega arith)
+    (λ b c. m (lookup-in e es a (omega arith) s ∙ sym c))))))
+    (λ t. rw (below-none a e es (omega arith)) (omega arith)))
+    (λ s. rw (below-all a e es (omega arith) (omega arith))
+    (omega (arith, below-joins n hi a f es _ _ (h .1) d (λ b. m (lookup-after e es a (omega arith) ∙ b)))))
