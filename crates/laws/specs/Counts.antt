@@ -2,7 +2,7 @@
 use Prim.Native.Nat.{ℕ, zero, suc, _+_, _-_, _%_, _≤_, _<_}
 use mathlib.Core.Path.{_≡_, refl, sym, ap, _∙_, subst}
 use mathlib.Core.List.{List, [], _∷_, _++_}
-use mathlib.Core.Bool.{Bool, true, false}
+use mathlib.Core.Bool.{Bool, false}
 use mathlib.Core.Logic.{by-cases}
 use native.Mathlib.Omega.{arith}
 use native.Mathlib.Decide.{decLt, ℕ-discrete}
@@ -15,7 +15,7 @@ use Rattle.rules.specs.Extents.{none, extent, end, lookup, joinable, join, runs
 use Rattle.rules.specs.declared.Extent.{Extent}
 use Rattle.laws.specs.Bools.{cases, never}
 use Rattle.laws.specs.Sums.{one-le}
-use Rattle.laws.specs.Rows.{Row, Rows, rows-le, lookup-in, lookup-after}
+use Rattle.laws.specs.Rows.{Rows, rows-le, lookup-in, lookup-after}
 use Rattle.laws.specs.Runs.{joinable-true, joinable-first, join-joined, join-apart, join-length, runs-hole, runs-page, runs-rows, runs-lookup, Words}
 use Rattle.laws.specs.Cut.{below, from, cut, below-none, below-part, below-all, from-none, from-part, from-all, below-rows, from-rows, from-lookup}
 use Rattle.laws.specs.Trim.{trim-cut}
@@ -55,6 +55,20 @@ pub tally-more : (t : Extent → Bool) (ws : List ℕ) (u : ℕ) → tally t (sl
 unfolding tally
 tally-more t ws u =
     ap (tally t) (slots-more ws 0 u u (omega arith)) ∙ tally-append t (slots ws 0 u) (slot ws u ∷ []) ∙ omega arith
+
+pub starts-more : (a : ℕ) (ws : List ℕ) (u : ℕ) → startsBefore a (slots ws 0 (u + 1)) ≡ startsBefore a (slots ws 0 u) + one (ltb (slot ws u .logical) a)
+starts-more a = tally-more (λ e. ltb (e .logical) a)
+
+pub ends-more : (b : ℕ) (ws : List ℕ) (u : ℕ) → endsAfter b (slots ws 0 (u + 1)) ≡ endsAfter b (slots ws 0 u) + one (ltb b (end (slot ws u)))
+ends-more b = tally-more (λ e. ltb b (end e))
+
+pub left-more : (n : ℕ) (f : Extent) (ws : List ℕ) (u : ℕ) → leftJoin n f (slots ws 0 (u + 1)) ≡ leftJoin n f (slots ws 0 u) + one (joinable n (slot ws u) f)
+left-more n f = tally-more (λ e. joinable n e f)
+
+pub tally-le : (t : Extent → Bool) (es : List Extent) → tally t es ≤ length es
+unfolding tally
+tally-le t [] = omega arith
+tally-le t (e ∷ es) = omega (arith, one-le (t e), tally-le t es)
 
 -- ---- which extents pass
 
@@ -196,8 +210,11 @@ below-joins n hi a f (e ∷ es) lo q h d m =
     let rest = joins-none n hi f es _ _ (h .1) (omega arith) in
     by-cases (decLt (e .logical) a)
     (λ t. let left = extent (e .logical) (e .physical) (a - e .logical) in
-    rw (below-part a e es t s) (omega (arith, ap one (joinable-first n left f (omega arith)
-    (λ b c. m (lookup-in e es a (omega arith) s ∙ sym c))))))
+    rw (below-part a e es t s) (omega (
+      arith,
+      ap one (joinable-first n left f (omega arith)
+          (λ b c. m (lookup-in e es a (omega arith) s ∙ sym c))),
+    )))
     (λ t. rw (below-none a e es (omega arith)) (omega arith)))
     (λ s. rw (below-all a e es (omega arith) (omega arith))
     (omega (arith, below-joins n hi a f es _ _ (h .1) d (λ b. m (lookup-after e es a (omega arith) ∙ b)))))
@@ -308,8 +325,13 @@ pub write-count : (n : ℕ) → 0 < n → (a v : ℕ) (vs t : List ℕ) → a + 
     → length (runs n 0 (sets t a (v ∷ vs))) + leftJoin n (extent a v 1) (runs n 0 t)
     ≡ startsBefore a (runs n 0 t) + endsAfter (a + length (v ∷ vs)) (runs n 0 t) + length (runs n a (v ∷ vs))
 write-count n z a v vs t f w w′ first last left right =
-    omega (arith, ap length (write-place n z a (v ∷ vs) t f w w′), left-same n a v 1 (g .count) es, counted new (g .is) (runs-rows n z (v ∷ vs) a b w refl)
-    (λ k. subst (λ (x : ℕ). x % n ≡ 0) (sym end) (right (sym (say b) ∙ k ∙ end))))
+    omega (
+      arith,
+      ap length (write-place n z a (v ∷ vs) t f w w′),
+      left-same n a v 1 (g .count) es,
+      counted new (g .is) (runs-rows n z (v ∷ vs) a b w refl)
+          (λ k. subst (λ (x : ℕ). x % n ≡ 0) (sym behind) (right (sym (say b) ∙ k ∙ behind))),
+    )
   where
     b : ℕ
     b = a + length (v ∷ vs)
@@ -323,8 +345,8 @@ write-count n z a v vs t f w w′ first last left right =
     g : Begins a v new
     g = runs-first n a v vs first
 
-    end : tip none new ≡ getD (v ∷ vs) (length vs) none + 1
-    end = runs-tip n a (v ∷ vs) none (length vs) refl last
+    behind : tip none new ≡ getD (v ∷ vs) (length vs) none + 1
+    behind = runs-tip n a (v ∷ vs) none (length vs) refl last
 
     say : (l : ℕ) → lookup es l ≡ getD t l none
     say l = runs-lookup n z t 0 l l w′ (omega arith)

@@ -132,27 +132,27 @@ append-left n m m′ hi (e ∷ es) ys lo q q′ l h t s s′ =
 pub append-right : (n m : ℕ) (es ys : List Extent) (lo q l : ℕ) → Rows n lo q m es → m ≤ l → lookup (es ++ ys) l ≡ lookup ys l
 append-right n m [] ys lo q l h s = refl
 append-right n m (e ∷ es) ys lo q l h s =
-    let eq = rows-le n m es _ _ (h .1) in
+    let g = rows-le n m es _ _ (h .1) in
     lookup-after e (es ++ ys) l (omega arith) ∙ append-right n m es ys _ _ l (h .1) s
 
 -- ---- the cut
 
-module _ (n hi a b : ℕ) (es : List Extent) (s : a < b) (eq : b ≤ hi) (h : Rows n 0 none hi es) where
+module _ (n hi a b : ℕ) (es : List Extent) (s : a < b) (f : b ≤ hi) (h : Rows n 0 none hi es) where
   pub cut-rows : Rows n 0 none hi (cut a b es)
   unfolding cut
-  cut-rows = append-rows n a b hi (below a es) (from b es) 0 none s (below-rows n hi a es 0 none (omega arith) h) (from-rows n hi b es 0 none eq h)
+  cut-rows = append-rows n a b hi (below a es) (from b es) 0 none s (below-rows n hi a es 0 none (omega arith) h) (from-rows n hi b es 0 none f h)
 
   pub cut-left : (l : ℕ) → l < a → lookup (cut a b es) l ≡ lookup es l
   unfolding cut
   cut-left l g =
-      append-left n a b hi (below a es) (from b es) 0 none none l (below-rows n hi a es 0 none (omega arith) h) (from-rows n hi b es 0 none eq h) (omega arith) g
+      append-left n a b hi (below a es) (from b es) 0 none none l (below-rows n hi a es 0 none (omega arith) h) (from-rows n hi b es 0 none f h) (omega arith) g
       ∙ below-lookup a es l g
 
   pub cut-in : (l : ℕ) → a ≤ l → l < b → lookup (cut a b es) l ≡ none
   unfolding cut
   cut-in l g t =
       append-right n a (below a es) (from b es) 0 none l (below-rows n hi a es 0 none (omega arith) h) g
-      ∙ lookup-low n hi (from b es) b none l (from-rows n hi b es 0 none eq h) t
+      ∙ lookup-low n hi (from b es) b none l (from-rows n hi b es 0 none f h) t
 
   pub cut-right : (l : ℕ) → b ≤ l → lookup (cut a b es) l ≡ lookup es l
   unfolding cut

@@ -109,9 +109,9 @@ insert-in n hi x (e ∷ es) lo q l c h f a b =
     by-cases (decLt (x .logical) (e .logical))
     (λ s. rw (insert-here n x e es s) (lookup-in x (e ∷ es) l a b))
     (λ s. cases (joinable n e x)
-    (λ j. let eq = joinable-true n e x j in
+    (λ j. let g = joinable-true n e x j in
     rw (insert-join n x e es (omega arith) j)
-    (omega (arith, eq .logical, eq .physical, lookup-in (extent (e .logical) (e .physical) (e .count + x .count)) es l (omega arith) (omega (arith, eq .logical)))))
+    (omega (arith, g .logical, g .physical, lookup-in (extent (e .logical) (e .physical) (e .count + x .count)) es l (omega arith) (omega (arith, g .logical)))))
     (λ j. let t = over n x e es lo q hi c h f (omega arith) in
     rw (insert-next n x e es (omega arith) j)
     (lookup-after e (insert n x es) l (omega arith) ∙ insert-in n hi x es _ _ l c (h .1) (free-tail n hi x e es t f) a b)))
@@ -123,12 +123,12 @@ insert-low n x (e ∷ es) l a =
     by-cases (decLt (x .logical) (e .logical))
     (λ s. rw (insert-here n x e es s) (lookup-before x (e ∷ es) l a ∙ sym (lookup-before e es l (omega arith))))
     (λ s. cases (joinable n e x)
-    (λ j. let eq = joinable-true n e x j in
+    (λ j. let g = joinable-true n e x j in
     let y = extent (e .logical) (e .physical) (e .count + x .count) in
     rw (insert-join n x e es (omega arith) j)
     (by-cases (decLt l (e .logical))
     (λ d. lookup-before y es l d ∙ sym (lookup-before e es l d))
-    (λ d. lookup-in y es l (omega arith) (omega (arith, eq .logical)) ∙ sym (lookup-in e es l (omega arith) (omega (arith, eq .logical))))))
+    (λ d. lookup-in y es l (omega arith) (omega (arith, g .logical)) ∙ sym (lookup-in e es l (omega arith) (omega (arith, g .logical))))))
     (λ j. rw (insert-next n x e es (omega arith) j) (lookup-cons e (insert n x es) es l (insert-low n x es l a))))
 
 pub insert-high : (n : ℕ) (x : Extent) (es : List Extent) (l : ℕ) → x .logical + x .count ≤ l → lookup (insert n x es) l ≡ lookup es l
@@ -138,9 +138,9 @@ insert-high n x (e ∷ es) l a =
     by-cases (decLt (x .logical) (e .logical))
     (λ s. rw (insert-here n x e es s) (lookup-after x (e ∷ es) l a))
     (λ s. cases (joinable n e x)
-    (λ j. let eq = joinable-true n e x j in
+    (λ j. let g = joinable-true n e x j in
     rw (insert-join n x e es (omega arith) j)
-    (lookup-after (extent (e .logical) (e .physical) (e .count + x .count)) es l (omega (arith, eq .logical)) ∙ sym (lookup-after e es l (omega (arith, eq .logical)))))
+    (lookup-after (extent (e .logical) (e .physical) (e .count + x .count)) es l (omega (arith, g .logical)) ∙ sym (lookup-after e es l (omega (arith, g .logical)))))
     (λ j. rw (insert-next n x e es (omega arith) j) (lookup-cons e (insert n x es) es l (insert-high n x es l a))))
 
 -- one slot more, or none

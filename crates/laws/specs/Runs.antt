@@ -1,5 +1,5 @@
 -- The extents of a plain table, and that they are the only sound list that says what the table says.
-use Prim.Native.Nat.{ℕ, zero, suc, _+_, _*_, _/_, _%_, _≤_, _<_}
+use Prim.Native.Nat.{ℕ, zero, suc, _+_, _-_, _*_, _/_, _%_, _≤_, _<_}
 use mathlib.Core.Path.{_≡_, refl, sym, ap, _∙_}
 use mathlib.Core.List.{List, [], _∷_}
 use mathlib.Core.Bool.{true, false, false≢true}
@@ -9,11 +9,12 @@ use native.Mathlib.Decide.{decLt, ℕ-discrete}
 use native.Mathlib.Nat.{mod-lt, div-add-mod'}
 use borrow.Author.Tests.{eqb-true, eq-eqb, ne-eqb}
 use lib.ListN.{length, getD, List·getD-eq-default}
+use lib.Seq.{sets, length-sets}
 use Rattle.rules.specs.Counting.{tabulate}
 use Rattle.rules.specs.Extents.{none, extent, lookup, joinable, join, runs}
 use Rattle.rules.specs.declared.Extent.{Extent}
 use Rattle.laws.specs.Bools.{cases, and-split, and-join, never}
-use Rattle.laws.specs.Cells.{length-tabulate, getD-tabulate}
+use Rattle.laws.specs.Cells.{length-tabulate, getD-tabulate, sets-low, sets-in, sets-high}
 use Rattle.laws.specs.Rows.{Row, Rows, rows-at, rows-gap, lookup-before, lookup-in, lookup-after, lookup-low, lookup-word, div-shift, mod-edge}
 use Rattle.laws.specs.Unique.{unique}
 
@@ -162,6 +163,31 @@ pub encode : (n : ℕ) → 0 < n → (ps : List ℕ) (es : List Extent) → Word
 encode n z ps es w h same =
     unique n (length ps) es (runs n 0 ps) 0 none h (runs-rows n z ps 0 (length ps) w (omega arith))
     (λ l a b. same l b ∙ sym (runs-lookup n z ps 0 l l w (omega arith)))
+
+-- ---- words stored into a table
+
+pub sets-words : (vs t : List ℕ) (a : ℕ) → Words vs → Words t → a + length vs ≤ length t → Words (sets t a vs)
+sets-words vs t a v w f j =
+    by-cases (decLt j a)
+    (λ g. omega (arith, sets-low none vs t a j g, w j))
+    (λ g. by-cases (decLt j (a + length vs))
+    (λ h. omega (arith, sets-in none vs t a j (j - a) (omega arith) f (omega arith), v (j - a)))
+    (λ h. omega (arith, sets-high none vs t a j (omega arith), w j)))
+
+-- a sound list that says what was stored, and elsewhere what the table said, is that of the table with the words stored from line a on
+pub encode-sets : (n : ℕ) → 0 < n → (a : ℕ) (vs t : List ℕ) (es : List Extent) → a + length vs ≤ length t → Words vs → Words t
+    → Rows n 0 none (length t) es
+    → ((l : ℕ) → l < a → lookup es l ≡ lookup (runs n 0 t) l)
+    → ((l : ℕ) → a ≤ l → l < a + length vs → lookup es l ≡ getD vs (l - a) none)
+    → ((l : ℕ) → a + length vs ≤ l → lookup es l ≡ lookup (runs n 0 t) l)
+    → es ≡ runs n 0 (sets t a vs)
+encode-sets n z a vs t es f v w h left mid right =
+    encode n z (sets t a vs) es (sets-words vs t a v w f) (rw length-sets h)
+    (λ j s. by-cases (decLt j a)
+    (λ g. left j g ∙ runs-lookup n z t 0 j j w (omega arith) ∙ sym (sets-low none vs t a j g))
+    (λ g. by-cases (decLt j (a + length vs))
+    (λ d. mid j (omega arith) d ∙ sym (sets-in none vs t a j (j - a) (omega arith) f (omega arith)))
+    (λ d. right j (omega arith) ∙ runs-lookup n z t 0 j j w (omega arith) ∙ sym (sets-high none vs t a j (omega arith)))))
 
 -- ---- the table of a list of extents
 

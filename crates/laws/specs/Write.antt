@@ -1,19 +1,15 @@
 -- A write: new extents put in between what lies below a range and what lies above it, joined where they meet.
 use Prim.Native.Nat.{ℕ, _+_, _-_, _≤_, _<_}
-use mathlib.Core.Path.{_≡_, refl, sym, _∙_}
+use mathlib.Core.Path.{_≡_, refl, _∙_}
 use mathlib.Core.List.{List, [], _∷_, _++_}
-use mathlib.Core.Logic.{by-cases}
 use native.Mathlib.Omega.{arith}
-use native.Mathlib.Decide.{decLt}
 use lib.ListN.{length}
-use lib.Seq.{sets, length-sets}
+use lib.Seq.{sets}
 use Rattle.rules.specs.Extents.{none, lookup, join, runs}
 use Rattle.rules.specs.declared.Extent.{Extent}
 use Rattle.laws.specs.Rows.{Rows, rows-first, lookup-cons}
-use Rattle.laws.specs.Runs.{join-rows, join-lookup, runs-rows, runs-lookup, Words, encode}
+use Rattle.laws.specs.Runs.{join-rows, join-lookup, runs-rows, runs-lookup, Words, encode-sets}
 use Rattle.laws.specs.Cut.{below, from, below-rows, from-rows, below-lookup, from-lookup, append-left, append-right}
-use Rattle.laws.specs.Cells.{sets-low, sets-in, sets-high}
-use Rattle.laws.specs.Trim.{sets-words}
 
 unfoldable pub glue : ℕ → List Extent → List Extent → List Extent
 glue n [] ys = ys
@@ -35,12 +31,12 @@ glue-rows n m hi (x ∷ es) ys lo q q′ h t =
 unfoldable pub place : ℕ → ℕ → ℕ → List Extent → List Extent → List Extent
 place n a b new es = glue n (below a es) (glue n new (from b es))
 
-module _ (n hi a b : ℕ) (new es : List Extent) (s : a ≤ b) (eq : b ≤ hi) (w : Rows n a none b new) (h : Rows n 0 none hi es) where
+module _ (n hi a b : ℕ) (new es : List Extent) (s : a ≤ b) (f : b ≤ hi) (w : Rows n a none b new) (h : Rows n 0 none hi es) where
   low : Rows n 0 none a (below a es)
   low = below-rows n hi a es 0 none (omega arith) h
 
   high : Rows n b none hi (from b es)
-  high = from-rows n hi b es 0 none eq h
+  high = from-rows n hi b es 0 none f h
 
   mid : Rows n a none hi (glue n new (from b es))
   mid = glue-rows n b hi new (from b es) a none none w high
@@ -73,14 +69,10 @@ module _ (n hi a b : ℕ) (new es : List Extent) (s : a ≤ b) (eq : b ≤ hi) (
 pub write-place : (n : ℕ) → 0 < n → (a : ℕ) (vs t : List ℕ) → a + length vs ≤ length t → Words vs → Words t
     → place n a (a + length vs) (runs n a vs) (runs n 0 t) ≡ runs n 0 (sets t a vs)
 write-place n z a vs t f v w =
-    encode n z (sets t a vs) (place n a b new es) (sets-words vs t a v w f)
-    (rw length-sets (place-rows n (length t) a b new es (omega arith) f made sound))
-    (λ j s. by-cases (decLt j a)
-    (λ g. place-left n (length t) a b new es (omega arith) f made sound j g ∙ runs-lookup n z t 0 j j w (omega arith) ∙ sym (sets-low none vs t a j g))
-    (λ g. by-cases (decLt j b)
-    (λ d. place-in n (length t) a b new es (omega arith) f made sound j (omega arith) d ∙ runs-lookup n z vs a j (j - a) v (omega arith)
-    ∙ sym (sets-in none vs t a j (j - a) (omega arith) f (omega arith)))
-    (λ d. place-right n (length t) a b new es (omega arith) f made sound j (omega arith) ∙ runs-lookup n z t 0 j j w (omega arith) ∙ sym (sets-high none vs t a j (omega arith)))))
+    encode-sets n z a vs t (place n a b new es) f v w (place-rows n (length t) a b new es (omega arith) f made sound)
+    (place-left n (length t) a b new es (omega arith) f made sound)
+    (λ j g h. place-in n (length t) a b new es (omega arith) f made sound j g h ∙ runs-lookup n z vs a j (j - a) v (omega arith))
+    (place-right n (length t) a b new es (omega arith) f made sound)
   where
     b : ℕ
     b = a + length vs
