@@ -12,18 +12,21 @@ use Rattle.rules.specs.Extents.{none, extent, lookup}
 use Rattle.rules.specs.declared.Extent.{Extent}
 use Rattle.laws.specs.Rows.{Rows, rows-at, rows-le, rows-gap, lookup-before, lookup-in, lookup-after, lookup-low, mod-shift}
 
+-- what lies below logical page a
 unfoldable pub below : ℕ → List Extent → List Extent
 below a [] = []
 below a (e ∷ es) =
     cond (leb a (e .logical)) []
     (cond (ltb a (e .logical + e .count)) (extent (e .logical) (e .physical) (a - e .logical) ∷ []) (e ∷ below a es))
 
+-- what lies from logical page b on
 unfoldable pub from : ℕ → List Extent → List Extent
 from b [] = []
 from b (e ∷ es) =
     cond (leb (e .logical + e .count) b) (from b es)
     (cond (ltb (e .logical) b) (extent b (e .physical + (b - e .logical)) (e .logical + e .count - b) ∷ es) (e ∷ es))
 
+-- without the lines from a up to b
 unfoldable pub cut : ℕ → ℕ → List Extent → List Extent
 cut a b es = below a es ++ from b es
 

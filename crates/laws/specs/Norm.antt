@@ -19,6 +19,7 @@ use Rattle.laws.specs.Sums.{count-le}
 use Rattle.laws.specs.Rows.{Row, Rows, lookup-before, lookup-in, lookup-after, lookup-cons, lookup-low, lookup-word, mod-shift, div-shift}
 use Rattle.laws.specs.Runs.{join-rows, join-lookup, join-length, runs-rows, runs-lookup, Words, encode}
 
+-- extents in order, each in its block, joinable or not
 pub record Fits (n lo : ℕ) (e : Extent) : Type 0 where
   pub above : lo ≤ e .logical
   pub some : 0 < e .count
@@ -29,6 +30,7 @@ abbrev pub Loose : ℕ → ℕ → ℕ → List Extent → Type 0
 Loose n lo hi [] = lo ≤ hi
 Loose n lo hi (e ∷ es) = Fits n lo e × Loose n (e .logical + e .count) hi es
 
+-- joined wherever rule 2 asks
 unfoldable pub norm : ℕ → List Extent → List Extent
 norm n [] = []
 norm n (x ∷ es) = join n x (norm n es)
@@ -53,6 +55,7 @@ norm-length n (x ∷ es) = omega (arith, join-length n x (norm n es), norm-lengt
 
 -- ---- pages moved by a function g on words
 
+-- an extent whose first page has moved; `Steady` says that the others have gone along
 abbrev pub move : (ℕ → ℕ) → Extent → Extent
 move g e = extent (e .logical) (g (e .physical)) (e .count)
 

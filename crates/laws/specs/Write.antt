@@ -11,6 +11,7 @@ use Rattle.laws.specs.Rows.{Rows, rows-first, lookup-cons}
 use Rattle.laws.specs.Runs.{join-rows, join-lookup, runs-rows, runs-lookup, Words, encode-sets}
 use Rattle.laws.specs.Cut.{below, from, below-rows, from-rows, below-lookup, from-lookup, append-left, append-right}
 
+-- extents in front of others, each joined with what follows it where rule 2 asks
 unfoldable pub glue : ℕ → List Extent → List Extent → List Extent
 glue n [] ys = ys
 glue n (x ∷ es) ys = join n x (glue n es ys)
@@ -28,6 +29,7 @@ glue-rows n m hi (x ∷ es) ys lo q q′ h t =
     (record { above = h .0 .above; some = h .0 .some; inside = h .0 .inside; small = h .0 .small; apart = λ eq f. absurd (omega arith) })
     (glue-rows n m hi es ys _ _ q′ (h .1) t)
 
+-- new extents for the lines from a up to b
 unfoldable pub place : ℕ → ℕ → ℕ → List Extent → List Extent → List Extent
 place n a b new es = glue n (below a es) (glue n new (from b es))
 
