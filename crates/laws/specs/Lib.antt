@@ -2,3 +2,15 @@ pub mod Bools
 pub mod Sums
 pub mod Picks
 pub mod Cells
+pub mod Rows
+pub mod Unique
+pub mod Runs
+pub mod Cut
+pub mod Trim
+pub mod Write
+pub mod Insert
+pub mod Put
+pub mod Norm
+pub mod Read
+pub mod Slots
+pub mod Counts

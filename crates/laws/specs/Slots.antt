@@ -1,0 +1,91 @@
+-- Extents as words, three a slot: slots read from words, and words laid out from extents.
+use Prim.Native.Nat.{ℕ, zero, suc, _+_, _*_, _≤_, _<_}
+use mathlib.Core.Path.{_≡_, refl, ap, ap₂, _∙_}
+use mathlib.Core.List.{List, [], _∷_, _++_}
+use native.Mathlib.Omega.{arith}
+use native.Mathlib.Nat.{not-suc-le-zero, le-of-suc-le-suc}
+use lib.ListN.{length, getD, take, drop}
+use Rattle.rules.specs.Extents.{slot, slots, flat}
+use Rattle.rules.specs.declared.Extent.{Extent}
+use Rattle.laws.specs.Unique.{extent-path}
+
+-- ---- slots read from words
+
+pub slots-length : (ws : List ℕ) (i u : ℕ) → length (slots ws i u) ≡ u
+unfolding slots
+slots-length ws i zero = refl
+slots-length ws i (suc u) = ap suc (slots-length ws (i + 1) u)
+
+pub slots-at : (ws : List ℕ) (i u j k : ℕ) (x : Extent) → j < u → k ≡ i + j → getD (slots ws i u) j x ≡ slot ws k
+unfolding slots
+slots-at ws i zero j k x h e = absurd (omega arith)
+slots-at ws i (suc u) zero k x h e = let at : i ≡ k = omega arith in ap (slot ws) at
+slots-at ws i (suc u) (suc j) k x h e = slots-at ws (i + 1) u j k x (omega arith) (omega arith)
+
+-- one slot more stands at the end
+pub slots-more : (ws : List ℕ) (i u j : ℕ) → j ≡ i + u → slots ws i (u + 1) ≡ slots ws i u ++ slot ws j ∷ []
+unfolding slots
+slots-more ws i zero j e = let at : i ≡ j = omega arith in ap (λ (k : ℕ). slot ws k ∷ []) at
+slots-more ws i (suc u) j e =
+    let s : suc u + 1 ≡ suc (u + 1) = omega arith in
+    rw s (ap (λ (es : List Extent). slot ws i ∷ es) (slots-more ws (i + 1) u j (omega arith)))
+
+triple : (s : ℕ) → 3 * suc s ≡ suc (suc (suc (3 * s)))
+triple s = omega arith
+
+-- behind one extent's words the slots are those of the rest
+slot-behind : (a b c : ℕ) (ws : List ℕ) (i j : ℕ) → j ≡ suc i → slot (a ∷ b ∷ c ∷ ws) j ≡ slot ws i
+slot-behind a b c ws i j e =
+    let word : ℕ → ℕ = λ k. getD (a ∷ b ∷ c ∷ ws) k 0 in
+    let first : 3 * j ≡ suc (suc (suc (3 * i))) = omega arith in
+    let second : 3 * j + 1 ≡ suc (suc (suc (3 * i + 1))) = omega arith in
+    let third : 3 * j + 2 ≡ suc (suc (suc (3 * i + 2))) = omega arith in
+    extent-path (slot (a ∷ b ∷ c ∷ ws) j) (slot ws i) (ap word first) (ap word second) (ap word third)
+
+slots-behind : (a b c : ℕ) (ws : List ℕ) (i j u : ℕ) → j ≡ suc i → slots (a ∷ b ∷ c ∷ ws) j u ≡ slots ws i u
+unfolding slots
+slots-behind a b c ws i j zero e = refl
+slots-behind a b c ws i j (suc u) e =
+    ap₂ (λ (x : Extent) (xs : List Extent). x ∷ xs) (slot-behind a b c ws i j e) (slots-behind a b c ws (i + 1) (j + 1) u (omega arith))
+
+-- ---- words laid out from extents
+
+pub flat-length : (es : List Extent) → length (flat es) ≡ 3 * length es
+unfolding flat
+flat-length [] = refl
+flat-length (e ∷ es) = omega (arith, flat-length es)
+
+pub flat-append : (xs ys : List Extent) → flat (xs ++ ys) ≡ flat xs ++ flat ys
+unfolding flat
+flat-append [] ys = refl
+flat-append (x ∷ xs) ys = rw (flat-append xs ys)
+
+pub flat-take : (s : ℕ) (es : List Extent) (z : List ℕ) → s ≤ length es → take (3 * s) (flat es ++ z) ≡ flat (take s es)
+unfolding flat
+flat-take zero es z h = refl
+flat-take (suc s) [] z h = absurd (not-suc-le-zero h)
+flat-take (suc s) (e ∷ es) z h = rw (triple, flat-take s es z (le-of-suc-le-suc h))
+
+pub flat-drop : (s : ℕ) (es : List Extent) (z : List ℕ) → s ≤ length es → drop (3 * s) (flat es ++ z) ≡ flat (drop s es) ++ z
+unfolding flat
+flat-drop zero es z h = refl
+flat-drop (suc s) [] z h = absurd (not-suc-le-zero h)
+flat-drop (suc s) (e ∷ es) z h = rw triple (flat-drop s es z (le-of-suc-le-suc h))
+
+-- ---- there and back
+
+pub slots-flat : (es : List Extent) (z : List ℕ) → slots (flat es ++ z) 0 (length es) ≡ es
+unfolding slots flat
+slots-flat [] z = refl
+slots-flat (e ∷ es) z =
+    ap (λ (xs : List Extent). e ∷ xs)
+    (slots-behind (e .logical) (e .physical) (e .count) (flat es ++ z) 0 (0 + 1) (length es) (omega arith) ∙ slots-flat es z)
+
+pub flat-slots : (ws : List ℕ) (u : ℕ) → 3 * u ≤ length ws → flat (slots ws 0 u) ≡ take (3 * u) ws
+unfolding slots flat
+flat-slots ws zero h = refl
+flat-slots [] (suc u) h = absurd (omega arith)
+flat-slots (a ∷ []) (suc u) h = absurd (omega arith)
+flat-slots (a ∷ b ∷ []) (suc u) h = absurd (omega arith)
+flat-slots (a ∷ b ∷ c ∷ ws) (suc u) h =
+    rw (triple, slots-behind a b c ws 0 (0 + 1) u (omega arith), flat-slots ws u (omega arith))
