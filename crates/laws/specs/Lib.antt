@@ -2,3 +2,5 @@ pub mod Bools
 pub mod Sums
 pub mod Picks
 pub mod Cells
+pub mod Device
+pub mod Live
