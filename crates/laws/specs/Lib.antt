@@ -4,3 +4,5 @@ pub mod Picks
 pub mod Cells
 pub mod Device
 pub mod Live
+pub mod Balance
+pub mod Placed

@@ -1,11 +1,11 @@
 -- A page is live when a line names it. In a sound device that line is the page's label, and only programmed pages are live.
 use Prim.Native.Nat.{ℕ, zero, suc, _+_, _*_, _≤_, _<_}
 use mathlib.Core.Path.{_≡_, refl, sym, ap, _∙_}
-use mathlib.Core.Bool.{Bool, true, false, _||_, false≢true}
+use mathlib.Core.Bool.{Bool, true, false, false≢true, true≢false}
 use mathlib.Core.List.{List, [], _∷_}
 use mathlib.Core.Logic.{by-cases}
 use native.Mathlib.Omega.{arith}
-use native.Mathlib.Decide.{decLt, ℕ-discrete}
+use native.Mathlib.Decide.{decLt}
 use borrow.Author.Tests.{eq-eqb, eqb-true}
 use lib.Dec.{eqb}
 use lib.ListN.{length, getD}
@@ -62,6 +62,15 @@ module _ (d : Device) (s : Sound d) (b : ℕ) (h : b < blocks d) where
   named-label o k e =
       let r = stands (b * d .pages + o) (d .table) none e in
       ap (at d) (named-line o (r .line) k (r .is)) ∙ r .is
+
+  -- 01: a programmed page is stale when no logical page maps to it
+  pub stale-page : (o : ℕ) → o < d .pages → named d b o ≡ false → (l : ℕ) → at d l ≡ b * d .pages + o → ⊥
+  stale-page o k e l g = true≢false (sym (named-by o l k g) ∙ e)
+
+  pub page-stale : (o : ℕ) → ((l : ℕ) → at d l ≡ b * d .pages + o → ⊥) → named d b o ≡ false
+  unfolding named
+  page-stale o none-has =
+      never (named d b o) (λ e. let r = stands (b * d .pages + o) (d .table) none e in none-has (r .line) (r .is))
 
   pub named-live : (o : ℕ) → o < d .pages → named d b o ≡ liveAt d b o
   unfolding liveAt
