@@ -6,3 +6,4 @@ pub mod Device
 pub mod Live
 pub mod Balance
 pub mod Placed
+pub mod Lines

@@ -1,6 +1,6 @@
 -- Pages put one at a time, each into a block that is open when its page comes. 01's order is one such choice.
 use Prim.Native.Nat.{ℕ, zero, suc, _+_, _*_, _≤_, _<_}
-use mathlib.Core.Path.{_≡_, refl, sym, ap, _∙_}
+use mathlib.Core.Path.{_≡_, refl, sym, ap, _∙_, subst}
 use mathlib.Core.List.{List, [], _∷_}
 use mathlib.Core.Bool.{Bool, true, not, _&&_}
 use mathlib.Core.Logic.{by-cases}
@@ -15,8 +15,9 @@ use Rattle.rules.specs.Counting.{one, count, first}
 use Rattle.rules.specs.Extents.{none}
 use Rattle.rules.specs.Device.{Device, blocks, lines, at, fill, label, room, mapped, live, free}
 use Rattle.rules.specs.Placement.{putAt, putsAt, placesAt, target, targets, puts, places}
-use Rattle.laws.specs.Sums.{sum-change, sum-zero, count-same, count-change, count-first}
+use Rattle.laws.specs.Sums.{sum-change, sum-zero, count-all}
 use Rattle.laws.specs.Picks.{first-passes, first-least, first-found}
+use Rattle.laws.specs.Cells.{count-set, count-sets}
 use Rattle.laws.specs.Device.{Home, Sound, same-block, same-offset, page-lt, offset-lt}
 use Rattle.laws.specs.Balance.{room-other, room-reserve}
 
@@ -186,10 +187,11 @@ module _ (d : Device) (s : Sound d) (b : ℕ) (v : Open d b) (l : ℕ) (a : l < 
 
   -- a line that had a page keeps the count
   pub put-live : live (putAt b l d) + one (mapped d l) ≡ live d + 1
-  unfolding live mapped
+  unfolding live mapped putAt
   put-live =
-      rw put-lines (count-change (lines d) (mapped (putAt b l d)) (mapped d) l a (λ k h e. put-mapped-other k e)
-      ∙ ap (λ (x : Bool). live d + one (not x)) (ne-eqb (at (putAt b l d) l) none (λ e. omega (arith, put-at, page-lt d s b (fill d b) (v .inside) (v .below)))))
+      let p = b * d .pages + fill d b in
+      count-set none (λ q. not (eqb q none)) (d .table) l p a
+      ∙ ap (λ (x : Bool). live d + one (not x)) (ne-eqb p none (λ e. omega (arith, page-lt d s b (fill d b) (v .inside) (v .below))))
 
 -- ---- several pages, into the listed blocks
 
@@ -245,34 +247,28 @@ puts-sound l (b ∷ bs) d s v h =
     let r = puts-sound (suc l) bs (putAt b l d) (p .sound) (v .1) (omega (arith, p .lines)) in
     record { sound = r .sound; blocks = r .blocks ∙ p .blocks; lines = r .lines ∙ p .lines; free = omega (arith, r .free, p .free) }
 
+pub places-lt : (l : ℕ) (bs : List ℕ) (d : Device) → Sound d → Opens l bs d → l + length bs ≤ lines d → (i : ℕ) → i < length bs → getD (placesAt l bs d) i none < none
+unfolding placesAt
+places-lt l [] d s v h i t = absurd (omega arith)
+places-lt l (b ∷ bs) d s v h zero t = page-lt d s b (fill d b) (v .0 .inside) (v .0 .below)
+places-lt l (b ∷ bs) d s v h (suc i) t =
+    let p = put-one b l d s (v .0) (omega arith) in
+    places-lt (suc l) bs (putAt b l d) (p .sound) (v .1) (omega (arith, p .lines)) i (omega arith)
+
 -- lines that had a page keep the count
 pub puts-live : (l : ℕ) (bs : List ℕ) (d : Device) → Sound d → Opens l bs d → l + length bs ≤ lines d
     → live (putsAt l bs d) + count (length bs) (λ i. mapped d (l + i)) ≡ live d + length bs
-unfolding putsAt count
-puts-live l [] d s v h = refl
-puts-live l (b ∷ bs) d s v h =
-    let a : l < lines d = omega arith in
-    let p = put-one b l d s (v .0) a in
-    let first : l + 0 ≡ l = omega arith in
-    let rest = count-same (length bs) (λ i. mapped (putAt b l d) (suc l + i)) (λ i. mapped d (l + suc i))
-    (λ i t. let e : suc l + i ≡ l + suc i = omega arith in
-    put-mapped-other d s b (v .0) l a (suc l + i) (omega arith) ∙ ap (mapped d) e) in
-    omega (
+unfolding live mapped
+puts-live l bs d s v h =
+    let ps = placesAt l bs d in
+    let n = length-places l bs d in
+    let t : ℕ → Bool = λ p. not (eqb p none) in
+    rw (puts-table l bs d) (omega (
       arith,
-      count-first (length bs) (λ i. mapped d (l + i)),
-      ap (λ (x : ℕ). one (mapped d x)) first,
-      rest,
-      put-live d s b (v .0) l a,
-      puts-live (suc l) bs (putAt b l d) (p .sound) (v .1) (omega (arith, p .lines)),
-    )
-
-pub places-small : (l : ℕ) (bs : List ℕ) (d : Device) → Sound d → Opens l bs d → l + length bs ≤ lines d → (i : ℕ) → getD (placesAt l bs d) i none ≤ none
-unfolding placesAt
-places-small l [] d s v h i = omega arith
-places-small l (b ∷ bs) d s v h zero = omega (arith, page-lt d s b (fill d b) (v .0 .inside) (v .0 .below))
-places-small l (b ∷ bs) d s v h (suc i) =
-    let p = put-one b l d s (v .0) (omega arith) in
-    places-small (suc l) bs (putAt b l d) (p .sound) (v .1) (omega (arith, p .lines)) i
+      count-sets none t ps (d .table) l (omega arith),
+      ap (λ (x : ℕ). count x (λ i. t (getD (d .table) (l + i) none))) n,
+      count-all (length ps) (λ i. t (getD ps i none)) (λ i a. ap not (ne-eqb (getD ps i none) none (λ e. omega (arith, places-lt l bs d s v h i (omega arith))))),
+    ))
 
 -- a block with room for all of them may take them all
 pub block-open : (b l n : ℕ) (d : Device) → Sound d → b < blocks d → n ≤ room d b → l + n ≤ lines d → Opens l (replicate n b) d
@@ -297,3 +293,13 @@ targets-open l (suc n) d s f h =
     let v = target-open d (omega arith) in
     let p = put-one (target d) l d s v (omega arith) in
     (v, targets-open (suc l) n (putAt (target d) l d) (p .sound) (omega (arith, p .free)) (omega (arith, p .lines)))
+
+pub length-placed : (l n : ℕ) (d : Device) → length (places l n d) ≡ n
+unfolding places
+length-placed l n d = length-places l (targets l n d) d ∙ length-targets l n d
+
+pub puts-all : (l n : ℕ) (d : Device) → Sound d → n ≤ free d → l + n ≤ lines d → Puts d (puts l n d) n
+unfolding puts
+puts-all l n d s f h =
+    let m = length-targets l n d in
+    subst (Puts d (putsAt l (targets l n d) d)) m (puts-sound l (targets l n d) d s (targets-open l n d s f h) (omega arith))
