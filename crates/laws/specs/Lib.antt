@@ -7,3 +7,4 @@ pub mod Live
 pub mod Balance
 pub mod Placed
 pub mod Lines
+pub mod Reclaimed

@@ -9,7 +9,7 @@ use native.Mathlib.Decide.{decLt, ℕ-discrete}
 use borrow.Author.Tests.{eq-eqb, ne-eqb, lt-ltb, le-ltb, ltb-true, ltb-false}
 use lib.Arith.{digits-lt}
 use lib.Dec.{eqb, ltb}
-use lib.ListN.{length, getD, set, replicate, length-set}
+use lib.ListN.{length, getD, set, replicate, length-set, List·getD-eq-default}
 use lib.Seq.{sets, getD-set-same, getD-set-other}
 use Rattle.rules.specs.Counting.{one, count, first}
 use Rattle.rules.specs.Extents.{none}
@@ -254,6 +254,12 @@ places-lt l (b ∷ bs) d s v h zero t = page-lt d s b (fill d b) (v .0 .inside) 
 places-lt l (b ∷ bs) d s v h (suc i) t =
     let p = put-one b l d s (v .0) (omega arith) in
     places-lt (suc l) bs (putAt b l d) (p .sound) (v .1) (omega (arith, p .lines)) i (omega arith)
+
+pub places-small : (l : ℕ) (bs : List ℕ) (d : Device) → Sound d → Opens l bs d → l + length bs ≤ lines d → (i : ℕ) → getD (placesAt l bs d) i none ≤ none
+places-small l bs d s v h i =
+    by-cases (decLt i (length bs))
+    (λ t. omega (arith, places-lt l bs d s v h i t))
+    (λ t. omega (arith, List·getD-eq-default (placesAt l bs d) none {n = i} (omega (arith, length-places l bs d))))
 
 -- lines that had a page keep the count
 pub puts-live : (l : ℕ) (bs : List ℕ) (d : Device) → Sound d → Opens l bs d → l + length bs ≤ lines d
