@@ -8,3 +8,8 @@ pub mod Balance
 pub mod Placed
 pub mod Lines
 pub mod Reclaimed
+pub mod Valid
+pub mod Settle
+pub mod Fresh
+pub mod Flash
+pub mod History

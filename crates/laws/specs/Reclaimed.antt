@@ -344,6 +344,7 @@ pub record Reclaimed (d e : Device) (v : ℕ) : Type 0 where
   pub blocks : length (e .fills) ≡ length (d .fills)
   pub lines : length (e .table) ≡ length (d .table)
   pub slots : e .slots ≡ d .slots
+  pub reserve : e .reserve ≡ v
   pub last : e .last ≡ d .last
   pub live : live e ≡ live d
   pub stale : stale e + staleIn d v ≡ stale d
@@ -366,6 +367,7 @@ reclaim-all d s h =
       blocks = b;
       lines = re-lines d s v (c .inside) (c .other);
       slots = re-slots d s v (c .inside) (c .other);
+      reserve = re-reserve d s v (c .inside) (c .other);
       last = re-last d s v (c .inside) (c .other);
       live = l;
       stale = t;
