@@ -1,10 +1,11 @@
 -- What a sound device is, rule by rule, and how its pages lie: a page is a block and an offset below N, and is not `none`.
 use Prim.Native.Nat.{ℕ, _+_, _*_, _/_, _%_, _≤_, _<_}
 use mathlib.Core.Path.{_≡_, sym, ap, _∙_}
+use mathlib.Core.List.{List}
 use native.Mathlib.Omega.{arith}
 use native.Mathlib.Nat.{le-div-iff-mul-le}
 use lib.Arith.{digits-lt, digits-div, digits-mod}
-use lib.ListN.{length}
+use lib.ListN.{length, getD}
 use Rattle.rules.specs.Extents.{none}
 use Rattle.rules.specs.Device.{Device, blocks, lines, at, fill, label}
 
@@ -30,6 +31,10 @@ pub record Sound (d : Device) : Type 0 where
   -- rule 6
   pub kept : d .reserve < blocks d
   pub empty : fill d (d .reserve) ≡ 0
+
+-- cells of a device, labels or contents, are empty from each fill on
+abbrev pub Blank : {A : Type 0} → A → List A → Device → Type 0
+Blank z xs d = (b o : ℕ) → b < blocks d → fill d b ≤ o → o < d .pages → getD xs (b * d .pages + o) z ≡ z
 
 -- ---- pages by block and offset
 

@@ -18,7 +18,7 @@ use Rattle.rules.specs.Placement.{putAt, putsAt, placesAt, target, targets, put
 use Rattle.laws.specs.Sums.{sum-change, sum-zero, count-all}
 use Rattle.laws.specs.Picks.{first-passes, first-least, first-found}
 use Rattle.laws.specs.Cells.{count-set, count-sets}
-use Rattle.laws.specs.Device.{Home, Sound, same-block, same-offset, page-lt, offset-lt}
+use Rattle.laws.specs.Device.{Home, Sound, Blank, same-block, same-offset, page-lt, offset-lt}
 use Rattle.laws.specs.Balance.{room-other, room-reserve}
 
 -- ---- the block that takes the next page
@@ -102,17 +102,50 @@ module _ (d : Device) (s : Sound d) (b : ℕ) (v : Open d b) (l : ℕ) (a : l < 
   unfolding putAt
   put-fill-other c e = getD-set-other (d .fills) b c (suc (fill d b)) 0 e
 
-  pub put-label : label (putAt b l d) (b * d .pages + fill d b) ≡ l
-  unfolding putAt
-  put-label =
-      getD-set-same (d .spare) (b * d .pages + fill d b) l none
-      (omega (arith, digits-lt {q = b} {m = blocks d} {r = fill d b} {c = d .pages} (v .inside) (v .below), s .whole))
+  -- cells of the device, labels or contents, with x stored at the page that is taken
+  module _ {A : Type 0} (z x : A) (xs : List A) where
+    pub stored-in : length xs ≡ blocks d * d .pages → getD (set xs (b * d .pages + fill d b) x) (b * d .pages + fill d b) z ≡ x
+    stored-in w =
+        getD-set-same xs (b * d .pages + fill d b) x z
+        (omega (arith, digits-lt {q = b} {m = blocks d} {r = fill d b} {c = d .pages} (v .inside) (v .below)))
 
-  pub put-label-other : (c o : ℕ) → o < d .pages → (c ≡ b → o ≡ fill d b → ⊥) → label (putAt b l d) (c * d .pages + o) ≡ label d (c * d .pages + o)
+    pub stored-other : (c o : ℕ) → o < d .pages → (c ≡ b → o ≡ fill d b → ⊥) → getD (set xs (b * d .pages + fill d b) x) (c * d .pages + o) z ≡ getD xs (c * d .pages + o) z
+    stored-other c o h e =
+        getD-set-other xs (b * d .pages + fill d b) (c * d .pages + o) x z
+        (λ g. e (same-block (d .pages) c b o (fill d b) h (v .below) g) (same-offset (d .pages) c b o (fill d b) h (v .below) g))
+
+    -- the cell of a mapped page stays, for it is programmed
+    pub stored-kept : (k : ℕ) → (at d k ≡ none → ⊥) → getD (set xs (b * d .pages + fill d b) x) (at d k) z ≡ getD xs (at d k) z
+    stored-kept k m =
+        let h = s .home k m in
+        ap (λ (p : ℕ). getD (set xs (b * d .pages + fill d b) x) p z) (h .is)
+        ∙ stored-other (h .block) (h .offset) (offset-lt d s k m) (λ f g. omega (arith, h .below, ap (fill d) f))
+        ∙ sym (ap (λ (p : ℕ). getD xs p z) (h .is))
+
+    pub stored-blank : Blank z xs d → Blank z (set xs (b * d .pages + fill d b) x) (putAt b l d)
+    stored-blank y c o h k i =
+        let h′ : c < blocks d = rw put-blocks at h in
+        let i′ : o < d .pages = rw put-pages at i in
+        rw put-pages (by-cases (ℕ-discrete c b)
+        (λ e. let t : fill d c < o = omega (arith, ap (fill (putAt b l d)) e, put-fill, ap (fill d) e) in
+        stored-other c o i′ (λ f g. omega (arith, ap (fill d) e)) ∙ y c o h′ (omega arith) i′)
+        (λ e. stored-other c o i′ (λ f g. e f) ∙ y c o h′ (omega (arith, put-fill-other c e)) i′))
+
+  put-label : label (putAt b l d) (b * d .pages + fill d b) ≡ l
   unfolding putAt
-  put-label-other c o h e =
-      getD-set-other (d .spare) (b * d .pages + fill d b) (c * d .pages + o) l none
-      (λ g. e (same-block (d .pages) c b o (fill d b) h (v .below) g) (same-offset (d .pages) c b o (fill d b) h (v .below) g))
+  put-label = stored-in none l (d .spare) (s .whole)
+
+  put-label-other : (c o : ℕ) → o < d .pages → (c ≡ b → o ≡ fill d b → ⊥) → label (putAt b l d) (c * d .pages + o) ≡ label d (c * d .pages + o)
+  unfolding putAt
+  put-label-other c o h e = stored-other none l (d .spare) c o h e
+
+  put-label-kept : (k : ℕ) → (at d k ≡ none → ⊥) → label (putAt b l d) (at d k) ≡ label d (at d k)
+  unfolding putAt
+  put-label-kept k m = stored-kept none l (d .spare) k m
+
+  put-blank : Blank none (putAt b l d .spare) (putAt b l d)
+  unfolding putAt
+  put-blank = stored-blank none l (d .spare) (s .blank)
 
   put-home : (k : ℕ) → (at (putAt b l d) k ≡ none → ⊥) → Home (putAt b l d) k (at (putAt b l d) k)
   put-home k m =
@@ -120,7 +153,6 @@ module _ (d : Device) (s : Sound d) (b : ℕ) (v : Open d b) (l : ℕ) (a : l < 
       (λ e. rw e (rw put-at (record { block = b; offset = fill d b; is = rw put-pages; inside = rw put-blocks (v .inside); below = rw put-fill (omega arith); labelled = put-label })))
       (λ e. let m′ : at d k ≡ none → ⊥ = λ g. m (put-at-other k e ∙ g) in
       let h = s .home k m′ in
-      let z = offset-lt d s k m′ in
       rw (put-at-other k e) (record {
         block = h .block;
         offset = h .offset;
@@ -129,7 +161,7 @@ module _ (d : Device) (s : Sound d) (b : ℕ) (v : Open d b) (l : ℕ) (a : l < 
         below = by-cases (ℕ-discrete (h .block) b)
             (λ g. rw (g, put-fill) (omega (arith, h .below, ap (fill d) g)))
             (λ g. rw (put-fill-other (h .block) g) (h .below));
-        labelled = ap (label (putAt b l d)) (h .is) ∙ put-label-other (h .block) (h .offset) z (λ f g. omega (arith, h .below, ap (fill d) f)) ∙ sym (ap (label d) (h .is)) ∙ h .labelled;
+        labelled = put-label-kept k m′ ∙ h .labelled;
       }))
 
   put-whole : length (putAt b l d .spare) ≡ blocks (putAt b l d) * putAt b l d .pages
@@ -146,13 +178,6 @@ module _ (d : Device) (s : Sound d) (b : ℕ) (v : Open d b) (l : ℕ) (a : l < 
       (λ e. let t : o < fill d c = omega (arith, put-fill-other c e) in
       rw (put-label-other c o (omega (arith, s .full c h)) (λ x _. e x)) (s .labels c o h t)))
 
-  put-blank : (c o : ℕ) → c < blocks d → fill (putAt b l d) c ≤ o → o < d .pages → label (putAt b l d) (c * putAt b l d .pages + o) ≡ none
-  put-blank c o h k i =
-      rw put-pages (by-cases (ℕ-discrete c b)
-      (λ e. let t : fill d c < o = omega (arith, ap (fill (putAt b l d)) e, put-fill, ap (fill d) e) in
-      put-label-other c o i (λ x y. omega (arith, ap (fill d) e)) ∙ s .blank c o h (omega arith) i)
-      (λ e. put-label-other c o i (λ x _. e x) ∙ s .blank c o h (omega (arith, put-fill-other c e)) i))
-
   pub put-sound : Sound (putAt b l d)
   put-sound = record {
     some = rw put-pages (s .some);
@@ -162,7 +187,7 @@ module _ (d : Device) (s : Sound d) (b : ℕ) (v : Open d b) (l : ℕ) (a : l < 
         (λ e. rw (e, put-fill) (v .below))
         (λ e. rw (put-fill-other c e) (s .full c (rw put-blocks at h))));
     labels = λ c o h k. put-labels c o (rw put-blocks at h) k;
-    blank = λ c o h k i. put-blank c o (rw put-blocks at h) k (rw put-pages at i);
+    blank = put-blank;
     home = put-home;
     kept = rw (put-blocks, put-reserve) (s .kept);
     empty = rw put-reserve (put-fill-other (d .reserve) (λ e. v .other (sym e)) ∙ s .empty);
@@ -180,10 +205,6 @@ module _ (d : Device) (s : Sound d) (b : ℕ) (v : Open d b) (l : ℕ) (a : l < 
   unfolding free
   put-free =
       rw put-blocks (omega (arith, put-room, sum-change (blocks d) (room (putAt b l d)) (room d) b (v .inside) (λ c h e. put-room-other c e)))
-
-  pub put-mapped-other : (k : ℕ) → (k ≡ l → ⊥) → mapped (putAt b l d) k ≡ mapped d k
-  unfolding mapped
-  put-mapped-other k e = ap (λ (x : ℕ). not (eqb x none)) (put-at-other k e)
 
   -- a line that had a page keeps the count
   pub put-live : live (putAt b l d) + one (mapped d l) ≡ live d + 1

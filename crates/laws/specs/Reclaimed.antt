@@ -19,7 +19,7 @@ use Rattle.laws.specs.Bools.{same-test}
 use Rattle.laws.specs.Sums.{sum-change, sum-zero, count-same, count-none, count-rise, count-change}
 use Rattle.laws.specs.Picks.{most-lt, most-top, most-lowest, length-picks, picks-at, Picked, picked}
 use Rattle.laws.specs.Cells.{block-le, map-at, length-moved, moved-in, moved-rest, moved-gone, moved-other}
-use Rattle.laws.specs.Device.{Home, Sound, same-block, page-lt, offset-lt, none-block, home-block}
+use Rattle.laws.specs.Device.{Home, Sound, Blank, same-block, page-lt, offset-lt, none-block, home-block}
 use Rattle.laws.specs.Live.{named-by, named-line, named-label, named-below, count-named}
 use Rattle.laws.specs.Balance.{valid-named, valid-stale, valid-le, stale-reserve, balance}
 
@@ -104,8 +104,8 @@ module _ (d : Device) (s : Sound d) (v : ℕ) (a : v < blocks d) (e : v ≡ d .r
   length-sources =
       length-map (picks (d .pages) (named d v)) (λ o. v * d .pages + o) ∙ length-picks (d .pages) (named d v) ∙ sym valid-picks
 
-  fits : (c : ℕ) → c < blocks d → c * d .pages + d .pages ≤ length (d .spare)
-  fits c h = omega (arith, block-le (d .pages) c (blocks d) h, s .whole)
+  pub few-sources : length (sources v d) ≤ d .pages
+  few-sources = omega (arith, length-sources, valid-le d s v a)
 
   pub source : (i : ℕ) → i < valid d v → Picked (d .pages) (named d v) i (nth v d i)
   unfolding nth
@@ -119,28 +119,7 @@ module _ (d : Device) (s : Sound d) (v : ℕ) (a : v < blocks d) (e : v ≡ d .r
   pub source-below : (i : ℕ) → i < valid d v → nth v d i < fill d v
   source-below i h = let k = source i h in named-below d s v a (nth v d i) (k .below) (k .passes)
 
-  re-label-in : (i : ℕ) → i < valid d v → label (reclaimedAt v d) (d .reserve * d .pages + i) ≡ label d (v * d .pages + nth v d i)
-  unfolding reclaimedAt
-  re-label-in i h =
-      moved-in none (d .pages) (d .reserve) v (sources v d) (d .spare) (omega (arith, length-sources, valid-le d s v a)) (fits (d .reserve) (s .kept)) (fits v a) e i 0 (omega (arith, length-sources))
-      ∙ ap (label d) (source-page i 0 h)
-
-  re-label-rest : (i : ℕ) → valid d v ≤ i → i < d .pages → label (reclaimedAt v d) (d .reserve * d .pages + i) ≡ label d (d .reserve * d .pages + i)
-  unfolding reclaimedAt
-  re-label-rest i h k = moved-rest none (d .pages) (d .reserve) v (sources v d) (d .spare) (omega (arith, length-sources, valid-le d s v a)) (fits (d .reserve) (s .kept)) (fits v a) e i (omega (arith, length-sources)) k
-
-  re-label-gone : (o : ℕ) → o < d .pages → label (reclaimedAt v d) (v * d .pages + o) ≡ none
-  unfolding reclaimedAt
-  re-label-gone o h = moved-gone none (d .pages) (d .reserve) v (sources v d) (d .spare) (omega (arith, length-sources, valid-le d s v a)) (fits (d .reserve) (s .kept)) (fits v a) e o h
-
-  re-label : (c o : ℕ) → (c ≡ v → ⊥) → (c ≡ d .reserve → ⊥) → o < d .pages → label (reclaimedAt v d) (c * d .pages + o) ≡ label d (c * d .pages + o)
-  unfolding reclaimedAt
-  re-label c o f g h = moved-other none (d .pages) (d .reserve) v (sources v d) (d .spare) (omega (arith, length-sources, valid-le d s v a)) (fits (d .reserve) (s .kept)) (fits v a) e c o f g h
-
-  -- ---- soundness
-
-  pub three : {C : Type 0} (c : ℕ) → (c ≡ v → C) → (c ≡ d .reserve → C) → ((c ≡ v → ⊥) → (c ≡ d .reserve → ⊥) → C) → C
-  three c x y z = by-cases (ℕ-discrete c v) x (λ f. by-cases (ℕ-discrete c (d .reserve)) y (z f))
+  -- ---- where a line's page goes
 
   pub within : (l : ℕ) → at d l / d .pages ≡ v → Within v d l
   within l q =
@@ -166,46 +145,105 @@ module _ (d : Device) (s : Sound d) (v : ℕ) (a : v < blocks d) (e : v ≡ d .r
   pub rank-lt : (l : ℕ) (w : Within v d l) → count (w .offset) (named d v) < valid d v
   rank-lt l w = omega (arith, valid-named d s v a, count-rise (w .offset) (fill d v) (named d v) (w .below) (w .live))
 
-  pub re-mapped : (l : ℕ) → mapped (reclaimedAt v d) l ≡ mapped d l
-  unfolding mapped
-  re-mapped l =
-      by-cases (ℕ-discrete (at d l / d .pages) v)
-      (λ q. let w = within l q in
-      let z = rank-lt l w in
-      ap not (ne-eqb (at (reclaimedAt v d) l) none (λ g. omega (arith, re-at-within l w, page-lt d s (d .reserve) (count (w .offset) (named d v)) (s .kept) (omega (arith, valid-le d s v a))))
-      ∙ sym (ne-eqb (at d l) none (λ g. omega (arith, w .is, page-lt d s v (w .offset) a (omega (arith, w .below, s .full v a)))))))
-      (λ q. ap (λ (x : ℕ). not (eqb x none)) (re-at-other l q))
-
   pub nth-rank : (l : ℕ) (w : Within v d l) → nth v d (count (w .offset) (named d v)) ≡ w .offset
   unfolding nth
   nth-rank l w = picks-at (d .pages) (named d v) (w .offset) 0 (omega (arith, w .below, s .full v a)) (w .live)
 
-  re-home : (l : ℕ) → (at (reclaimedAt v d) l ≡ none → ⊥) → Home (reclaimedAt v d) l (at (reclaimedAt v d) l)
-  re-home l m =
+  pub re-hole : (l : ℕ) → at d l ≡ none → at (reclaimedAt v d) l ≡ none
+  re-hole l g = re-at-other l (λ q. none-block d s v a (sym (ap (λ (x : ℕ). x / d .pages) g) ∙ q)) ∙ g
+
+  pub re-some : (l : ℕ) → (at d l ≡ none → ⊥) → at (reclaimedAt v d) l ≡ none → ⊥
+  re-some l m g =
       by-cases (ℕ-discrete (at d l / d .pages) v)
       (λ q. let w = within l q in
-      let i = count (w .offset) (named d v) in
       let z = rank-lt l w in
+      omega (arith, re-at-within l w, page-lt d s (d .reserve) (count (w .offset) (named d v)) (s .kept) (omega (arith, valid-le d s v a))))
+      (λ q. m (sym (re-at-other l q) ∙ g))
+
+  -- ---- cells of the device, labels or contents, with the victim's copied and then emptied
+
+  three : {C : Type 0} (c : ℕ) → (c ≡ v → C) → (c ≡ d .reserve → C) → ((c ≡ v → ⊥) → (c ≡ d .reserve → ⊥) → C) → C
+  three c x y z = by-cases (ℕ-discrete c v) x (λ f. by-cases (ℕ-discrete c (d .reserve)) y (z f))
+
+  module _ {A : Type 0} (z : A) (xs : List A) (w : length xs ≡ blocks d * d .pages) where
+    fits : (c : ℕ) → c < blocks d → c * d .pages + d .pages ≤ length xs
+    fits c h = omega (arith, block-le (d .pages) c (blocks d) h)
+
+    carried-in : (i : ℕ) → i < valid d v → getD (moved z (d .pages) (d .reserve) v (sources v d) xs) (d .reserve * d .pages + i) z ≡ getD xs (v * d .pages + nth v d i) z
+    carried-in i h =
+        moved-in z (d .pages) (d .reserve) v (sources v d) xs few-sources (fits (d .reserve) (s .kept)) (fits v a) e i 0 (omega (arith, length-sources))
+        ∙ ap (λ (p : ℕ). getD xs p z) (source-page i 0 h)
+
+    carried-other : (c o : ℕ) → (c ≡ v → ⊥) → (c ≡ d .reserve → ⊥) → o < d .pages
+        → getD (moved z (d .pages) (d .reserve) v (sources v d) xs) (c * d .pages + o) z ≡ getD xs (c * d .pages + o) z
+    carried-other c o f g h = moved-other z (d .pages) (d .reserve) v (sources v d) xs few-sources (fits (d .reserve) (s .kept)) (fits v a) e c o f g h
+
+    -- the cell of a mapped page goes where the page goes
+    pub carried-kept : (l : ℕ) → (at d l ≡ none → ⊥) → getD (moved z (d .pages) (d .reserve) v (sources v d) xs) (at (reclaimedAt v d) l) z ≡ getD xs (at d l) z
+    carried-kept l m =
+        let ys = moved z (d .pages) (d .reserve) v (sources v d) xs in
+        by-cases (ℕ-discrete (at d l / d .pages) v)
+        (λ q. let y = within l q in
+        ap (λ (p : ℕ). getD ys p z) (re-at-within l y)
+        ∙ carried-in (count (y .offset) (named d v)) (rank-lt l y)
+        ∙ ap (λ (o : ℕ). getD xs (v * d .pages + o) z) (nth-rank l y)
+        ∙ sym (ap (λ (p : ℕ). getD xs p z) (y .is)))
+        (λ q. let h = s .home l m in
+        ap (λ (p : ℕ). getD ys p z) (re-at-other l q ∙ h .is)
+        ∙ carried-other (h .block) (h .offset) (λ g. q (home-block d s l m ∙ g)) (λ g. omega (arith, h .below, s .empty, ap (fill d) g)) (offset-lt d s l m)
+        ∙ sym (ap (λ (p : ℕ). getD xs p z) (h .is)))
+
+    pub carried-blank : Blank z xs d → Blank z (moved z (d .pages) (d .reserve) v (sources v d) xs) (reclaimedAt v d)
+    carried-blank y c o h k i =
+        let h′ : c < blocks d = rw re-blocks at h in
+        let i′ : o < d .pages = rw re-pages at i in
+        rw re-pages (three c
+        (λ q. rw q (moved-gone z (d .pages) (d .reserve) v (sources v d) xs few-sources (fits (d .reserve) (s .kept)) (fits v a) e o i′))
+        (λ q. let t : valid d v ≤ o = omega (arith, ap (fill (reclaimedAt v d)) q, re-fill-reserve) in
+        rw q (moved-rest z (d .pages) (d .reserve) v (sources v d) xs few-sources (fits (d .reserve) (s .kept)) (fits v a) e o (omega (arith, length-sources)) i′
+        ∙ y (d .reserve) o (s .kept) (omega (arith, s .empty)) i′))
+        (λ f g. carried-other c o f g i′ ∙ y c o h′ (rw (re-fill c f g) at k) i′))
+
+  -- ---- soundness
+
+  re-label-in : (i : ℕ) → i < valid d v → label (reclaimedAt v d) (d .reserve * d .pages + i) ≡ label d (v * d .pages + nth v d i)
+  unfolding reclaimedAt
+  re-label-in i h = carried-in none (d .spare) (s .whole) i h
+
+  re-label-other : (c o : ℕ) → (c ≡ v → ⊥) → (c ≡ d .reserve → ⊥) → o < d .pages → label (reclaimedAt v d) (c * d .pages + o) ≡ label d (c * d .pages + o)
+  unfolding reclaimedAt
+  re-label-other c o f g h = carried-other none (d .spare) (s .whole) c o f g h
+
+  re-label-kept : (l : ℕ) → (at d l ≡ none → ⊥) → label (reclaimedAt v d) (at (reclaimedAt v d) l) ≡ label d (at d l)
+  unfolding reclaimedAt
+  re-label-kept l m = carried-kept none (d .spare) (s .whole) l m
+
+  re-blank : Blank none (reclaimedAt v d .spare) (reclaimedAt v d)
+  unfolding reclaimedAt
+  re-blank = carried-blank none (d .spare) (s .whole) (s .blank)
+
+  re-home : (l : ℕ) → (at (reclaimedAt v d) l ≡ none → ⊥) → Home (reclaimedAt v d) l (at (reclaimedAt v d) l)
+  re-home l m =
+      let m′ : at d l ≡ none → ⊥ = λ g. m (re-hole l g) in
+      let h = s .home l m′ in
+      let labelled = re-label-kept l m′ ∙ h .labelled in
+      by-cases (ℕ-discrete (at d l / d .pages) v)
+      (λ q. let w = within l q in
       record {
         block = d .reserve;
-        offset = i;
+        offset = count (w .offset) (named d v);
         is = rw re-pages (re-at-within l w);
         inside = rw re-blocks (s .kept);
-        below = rw re-fill-reserve z;
-        labelled = ap (label (reclaimedAt v d)) (re-at-within l w) ∙ re-label-in i z ∙ ap (λ (x : ℕ). label d (v * d .pages + x)) (nth-rank l w) ∙ w .labelled;
+        below = rw re-fill-reserve (rank-lt l w);
+        labelled = labelled;
       })
-      (λ q. let m′ : at d l ≡ none → ⊥ = λ g. m (re-at-other l q ∙ g) in
-      let h = s .home l m′ in
-      let z = offset-lt d s l m′ in
-      let f : h .block ≡ v → ⊥ = λ g. q (home-block d s l m′ ∙ g) in
-      let g : h .block ≡ d .reserve → ⊥ = λ g. omega (arith, h .below, s .empty, ap (fill d) g) in
-      record {
+      (λ q. record {
         block = h .block;
         offset = h .offset;
         is = rw re-pages (re-at-other l q ∙ h .is);
         inside = rw re-blocks (h .inside);
-        below = rw (re-fill (h .block) f g) (h .below);
-        labelled = ap (label (reclaimedAt v d)) (re-at-other l q ∙ h .is) ∙ re-label (h .block) (h .offset) f g z ∙ sym (ap (label d) (h .is)) ∙ h .labelled;
+        below = rw (re-fill (h .block) (λ g. q (home-block d s l m′ ∙ g)) (λ g. omega (arith, h .below, s .empty, ap (fill d) g))) (h .below);
+        labelled = labelled;
       })
 
   re-whole : length (reclaimedAt v d .spare) ≡ blocks (reclaimedAt v d) * reclaimedAt v d .pages
@@ -226,14 +264,7 @@ module _ (d : Device) (s : Sound d) (v : ℕ) (a : v < blocks d) (e : v ≡ d .r
       (λ q. let i : o < valid d v = omega (arith, ap (fill (reclaimedAt v d)) q, re-fill-reserve) in
       rw (q, re-label-in o i) (s .labels v (nth v d o) a (source-below o i)))
       (λ f g. let i : o < fill d c = rw (re-fill c f g) at k in
-      rw (re-label c o f g (omega (arith, s .full c h))) (s .labels c o h i))
-
-  re-blank : (c o : ℕ) → c < blocks d → fill (reclaimedAt v d) c ≤ o → o < d .pages → label (reclaimedAt v d) (c * d .pages + o) ≡ none
-  re-blank c o h k i =
-      three c
-      (λ q. rw q (re-label-gone o i))
-      (λ q. rw q (re-label-rest o (omega (arith, ap (fill (reclaimedAt v d)) q, re-fill-reserve)) i ∙ s .blank (d .reserve) o (s .kept) (omega (arith, s .empty)) i))
-      (λ f g. re-label c o f g i ∙ s .blank c o h (rw (re-fill c f g) at k) i)
+      rw (re-label-other c o f g (omega (arith, s .full c h))) (s .labels c o h i))
 
   pub re-sound : Sound (reclaimedAt v d)
   re-sound = record {
@@ -242,13 +273,20 @@ module _ (d : Device) (s : Sound d) (v : ℕ) (a : v < blocks d) (e : v ≡ d .r
     whole = re-whole;
     full = λ c h. rw re-pages (re-full c (rw re-blocks at h));
     labels = λ c o h k. rw (re-pages, re-lines) (re-labels c o (rw re-blocks at h) k);
-    blank = λ c o h k i. rw re-pages (re-blank c o (rw re-blocks at h) k (rw re-pages at i));
+    blank = re-blank;
     home = re-home;
     kept = rw (re-blocks, re-reserve) a;
     empty = rw re-reserve re-fill-victim;
   }
 
   -- ---- counts
+
+  pub re-mapped : (l : ℕ) → mapped (reclaimedAt v d) l ≡ mapped d l
+  unfolding mapped
+  re-mapped l =
+      by-cases (ℕ-discrete (at d l) none)
+      (λ g. rw (g, re-hole l g))
+      (λ m. rw (ne-eqb (at d l) none m, ne-eqb (at (reclaimedAt v d) l) none (re-some l m)))
 
   pub re-live : live (reclaimedAt v d) ≡ live d
   unfolding live
