@@ -1,5 +1,5 @@
 -- Runs of stores read by index, and a block's cells copied to another block and then emptied.
-use Prim.Native.Nat.{ℕ, zero, suc, _+_, _*_, _≤_, _<_}
+use Prim.Native.Nat.{ℕ, zero, suc, _+_, _-_, _*_, _≤_, _<_}
 use mathlib.Core.Path.{_≡_, refl, sym, ap, ap₂, _∙_}
 use mathlib.Core.List.{List, [], _∷_, map}
 use mathlib.Core.Bool.{Bool, false}
@@ -56,6 +56,19 @@ module _ {A : Type 0} (z : A) where
       by-cases (decLt j i)
       (λ a. sets-low vs l i j a)
       (λ a. by-cases (decLt j (i + length vs)) (λ b. absurd (h (omega arith) b)) (λ b. sets-high vs l i j (omega arith)))
+
+  -- what g tells at each index is the stores where they lie and the list elsewhere
+  pub sets-tells : (g : ℕ → A) (vs l : List A) (i : ℕ) → i + length vs ≤ length l
+      → ((m j : ℕ) → m < length vs → j ≡ i + m → g j ≡ getD vs m z)
+      → ((j : ℕ) → (i ≤ j → j < i + length vs → ⊥) → g j ≡ getD l j z)
+      → (j : ℕ) → g j ≡ getD (sets l i vs) j z
+  sets-tells g vs l i f stored other j =
+      let out : (i ≤ j → j < i + length vs → ⊥) → g j ≡ getD (sets l i vs) j z = λ h. other j h ∙ sym (sets-other vs l i j h) in
+      by-cases (decLt j i)
+      (λ a. out (λ b c. omega arith))
+      (λ a. by-cases (decLt j (i + length vs))
+      (λ b. stored (j - i) j (omega arith) (omega arith) ∙ sym (sets-in vs l i j (j - i) (omega arith) f (omega arith)))
+      (λ b. out (λ c d. omega arith)))
 
   pub map-at : {B : Type 0} (f : B → A) (xs : List B) (i : ℕ) (y : B) → i < length xs → getD (map f xs) i z ≡ f (getD xs i y)
   map-at f [] i y h = absurd (omega arith)

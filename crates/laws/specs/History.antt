@@ -14,7 +14,7 @@ use Rattle.rules.specs.Placement.{targets, puts, places}
 use Rattle.rules.specs.Number.{withTable, numbered, written, trimmed}
 use Rattle.rules.specs.Reclaim.{victim, sources, reclaimed}
 use Rattle.rules.specs.Calls.{freshDevice}
-use Rattle.laws.specs.Cells.{sets-in, sets-other, map-at, replicate-at, Blanks}
+use Rattle.laws.specs.Cells.{sets-tells, map-at, replicate-at, Blanks}
 use Rattle.laws.specs.Device.{Sound}
 use Rattle.laws.specs.Placed.{length-targets, targets-open, puts-sound}
 use Rattle.laws.specs.Lines.{numbered-sound, trimmed-lines, trimmed-sound}
@@ -75,26 +75,25 @@ unfolding numbered withTable
 numbered-lines k d = refl
 
 step-write : (k l : ℕ) (xs : List ℕ) (d : Device) (f : List Cell) (t : List Seen) → Agrees d f t → l + length xs ≤ lines d → length xs ≤ free d
-    → Agrees (numbered k (puts l (length xs) d)) (program (places l (length xs) d) xs f) (sets t l (map (λ x. cell (value x)) xs))
-unfolding puts places
+    → Agrees (written k l (length xs) d) (program (places l (length xs) d) xs f) (sets t l (map (λ x. cell (value x)) xs))
+unfolding written puts places
 step-write k l xs d f t a h r =
+    let bs = targets l (length xs) d in
     let n = length-targets l (length xs) d in
     let v = targets-open l (length xs) d (a .sound) r h in
-    let p = puts-sound l (targets l (length xs) d) d (a .sound) v (omega arith) in
-    let w = write-shows l (targets l (length xs) d) xs d f (a .sound) (a .clean) v (omega arith) n in
+    let p = puts-sound l bs d (a .sound) v (omega arith) in
+    let w = write-shows l bs xs d f (a .sound) (a .clean) v (omega arith) n in
+    let d′ = puts l (length xs) d in
+    let f′ = program (places l (length xs) d) xs f in
     let ys = map (λ x. cell (value x)) xs in
     let m = length-map xs (λ x. cell (value x)) in
     record {
-      sound = numbered-sound k (puts l (length xs) d) (p .sound);
-      clean = numbered-clean k (puts l (length xs) d) (program (places l (length xs) d) xs f) (w .clean);
-      size = length-sets t l ys ∙ a .size ∙ sym (p .lines) ∙ sym (numbered-lines k (puts l (length xs) d));
-      says = λ j. numbered-shows k (puts l (length xs) d) (program (places l (length xs) d) xs f) j
-          ∙ by-cases (decLt j l)
-          (λ q. w .keeps j (λ x y. omega arith) ∙ a .says j ∙ sym (sets-other hole ys t l j (λ x y. omega arith)))
-          (λ q. by-cases (decLt j (l + length xs))
-          (λ o. w .shows (j - l) j (omega arith) (omega arith)
-          ∙ sym (sets-in hole ys t l j (j - l) (omega arith) (omega (arith, a .size)) (omega arith) ∙ map-at hole (λ x. cell (value x)) xs (j - l) 0 (omega arith)))
-          (λ o. w .keeps j (λ x y. omega arith) ∙ a .says j ∙ sym (sets-other hole ys t l j (λ x y. omega arith))));
+      sound = numbered-sound k d′ (p .sound);
+      clean = numbered-clean k d′ f′ (w .clean);
+      size = length-sets t l ys ∙ a .size ∙ sym (p .lines) ∙ sym (numbered-lines k d′);
+      says = λ j. numbered-shows k d′ f′ j ∙ sets-tells hole (contents d′ f′) ys t l (omega (arith, a .size))
+          (λ i j q e. w .shows i j (omega arith) e ∙ sym (map-at hole (λ x. cell (value x)) xs i 0 (omega arith)))
+          (λ j q. w .keeps j (λ x y. q x (omega arith)) ∙ a .says j) j;
     }
 
 step-trim : (k l n : ℕ) (d : Device) (f : List Cell) (t : List Seen) → Agrees d f t → l + n ≤ lines d → Agrees (trimmed k l n d) f (sets t l (replicate n hole))
@@ -104,12 +103,9 @@ step-trim k l n d f t a h =
       sound = trimmed-sound k l n d (a .sound) h;
       clean = trim-clean k l n d f (a .clean);
       size = length-sets t l (replicate n hole) ∙ a .size ∙ sym (trimmed-lines k l n d);
-      says = λ j. by-cases (decLt j l)
-          (λ q. trim-keeps k l n d f j (λ x y. omega arith) ∙ a .says j ∙ sym (sets-other hole (replicate n hole) t l j (λ x y. omega arith)))
-          (λ q. by-cases (decLt j (l + n))
-          (λ o. trim-shows k l n d f h j (omega arith) o
-          ∙ sym (sets-in hole (replicate n hole) t l j (j - l) (omega arith) (omega (arith, a .size)) (omega arith) ∙ replicate-at hole n (j - l)))
-          (λ o. trim-keeps k l n d f j (λ x y. omega arith) ∙ a .says j ∙ sym (sets-other hole (replicate n hole) t l j (λ x y. omega arith))));
+      says = sets-tells hole (contents (trimmed k l n d) f) (replicate n hole) t l (omega (arith, a .size))
+          (λ i j q e. trim-shows k l n d f h j (omega arith) (omega arith) ∙ sym (replicate-at hole n i))
+          (λ j q. trim-keeps k l n d f j (λ x y. q x (omega arith)) ∙ a .says j);
     }
 
 step-reclaim : (d : Device) (f : List Cell) (t : List Seen) → Agrees d f t → 0 < stale d → Agrees (reclaimed d) (vacate (victim d) d f) t
@@ -124,7 +120,7 @@ step-reclaim d f t a h =
     }
 
 pub step-agrees : (c : Call) (d : Device) (f : List Cell) (t : List Seen) → Agrees d f t → Fits c d → Agrees (step c d) (host c d f) (plain c t)
-unfolding step written host plain
+unfolding step host plain
 step-agrees (write k l xs) d f t a h = step-write k l xs d f t a (h .0) (h .1)
 step-agrees (trim k l n) d f t a h = step-trim k l n d f t a h
 step-agrees reclaim d f t a h = step-reclaim d f t a h
@@ -163,12 +159,27 @@ module _ (taken : Call → Device → Bool) where
   run [] w = w
   run (c ∷ cs) w = run cs (turn c w)
 
+  pub turn-right : ((c : Call) (d : Device) → taken c d ≡ true → Fits c d) → (c : Call) (w : World) → Right w → Right (turn c w)
+  unfolding turn done
+  turn-right ok c w r =
+      right-if (taken c (w .device)) (done c w) w (λ e. step-agrees c (w .device) (w .flash) (w .shown) r (ok c (w .device) e)) r
+
   pub run-right : ((c : Call) (d : Device) → taken c d ≡ true → Fits c d) → (cs : List Call) (w : World) → Right w → Right (run cs w)
-  unfolding run turn done
+  unfolding run
   run-right ok [] w r = r
-  run-right ok (c ∷ cs) w r =
-      run-right ok cs (turn c w)
-      (right-if (taken c (w .device)) (done c w) w (λ e. step-agrees c (w .device) (w .flash) (w .shown) r (ok c (w .device) e)) r)
+  run-right ok (c ∷ cs) w r = run-right ok cs (turn c w) (turn-right ok c w r)
+
+  -- each call that is taken is safe when its turn comes
+  abbrev pub Safes : List Call → World → Type 0
+  Safes [] w = Unit {0}
+  Safes (c ∷ cs) w = (taken c (w .device) ≡ true → Safe c (w .device) (w .flash)) × Safes cs (turn c w)
+
+  pub run-safe : ((c : Call) (d : Device) → taken c d ≡ true → Fits c d) → (cs : List Call) (w : World) → Right w → Safes cs w
+  run-safe ok [] w r = tt
+  run-safe ok (c ∷ cs) w r = (
+    λ e. step-safe c (w .device) (w .flash) (w .shown) r (ok c (w .device) e),
+    run-safe ok cs (turn c w) (turn-right ok c w r),
+  )
 
 -- ---- a fresh device
 
