@@ -1,10 +1,10 @@
 -- The fresh device: it is sound, and all but the reserve is free.
 use Prim.Native.Nat.{ℕ, _+_, _-_, _*_, _≤_, _<_}
-use mathlib.Core.Path.{_≡_, refl, sym, ap, _∙_}
+use mathlib.Core.Path.{_≡_, ap}
 use native.Mathlib.Omega.{arith}
-use lib.ListN.{length, getD, replicate, length-replicate}
+use lib.ListN.{length-replicate}
 use Rattle.rules.specs.Extents.{none}
-use Rattle.rules.specs.Device.{Device, blocks, lines, at, fill, label, mapped, valid, staleIn, live, stale, free}
+use Rattle.rules.specs.Device.{blocks, lines, at, fill, label, mapped, valid, staleIn, live, stale, free}
 use Rattle.rules.specs.Calls.{freshDevice}
 use Rattle.laws.specs.Sums.{sum-zero, count-none}
 use Rattle.laws.specs.Cells.{replicate-at}

@@ -1,11 +1,9 @@
 -- Any history of calls: every line shows what was last written to it, or a hole, and no page is programmed unless it is erased.
-use Prim.Native.Nat.{ℕ, _+_, _-_, _*_, _≤_, _<_}
+use Prim.Native.Nat.{ℕ, _+_, _*_, _≤_, _<_}
 use mathlib.Core.Path.{_≡_, refl, sym, ap, _∙_}
 use mathlib.Core.List.{List, [], _∷_, map}
 use mathlib.Core.Bool.{Bool, true, false, cond}
-use mathlib.Core.Logic.{by-cases}
 use native.Mathlib.Omega.{arith}
-use native.Mathlib.Decide.{decLt}
 use lib.ListN.{length, getD, replicate, length-map, length-replicate}
 use lib.Seq.{sets, length-sets}
 use Rattle.rules.specs.Extents.{none}

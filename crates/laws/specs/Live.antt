@@ -1,17 +1,15 @@
 -- A page is live when a line names it. In a sound device that line is the page's label, and only programmed pages are live.
 use Prim.Native.Nat.{ℕ, zero, suc, _+_, _*_, _≤_, _<_}
-use mathlib.Core.Path.{_≡_, refl, sym, ap, _∙_}
+use mathlib.Core.Path.{_≡_, sym, ap, _∙_}
 use mathlib.Core.Bool.{Bool, true, false, false≢true, true≢false}
 use mathlib.Core.List.{List, [], _∷_}
-use mathlib.Core.Logic.{by-cases}
 use native.Mathlib.Omega.{arith}
-use native.Mathlib.Decide.{decLt}
 use borrow.Author.Tests.{eq-eqb, eqb-true}
 use lib.Dec.{eqb}
 use lib.ListN.{length, getD}
 use Rattle.rules.specs.Counting.{among, count, picks}
 use Rattle.rules.specs.Extents.{none}
-use Rattle.rules.specs.Device.{Device, blocks, lines, at, fill, label, named}
+use Rattle.rules.specs.Device.{Device, blocks, at, fill, label, named}
 use Rattle.laws.specs.Bools.{cases, never, same-test}
 use Rattle.laws.specs.Picks.{picks-short, count-short}
 use Rattle.laws.specs.Device.{Sound, same-block, same-offset, page-lt, offset-lt}

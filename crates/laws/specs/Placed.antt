@@ -1,23 +1,23 @@
 -- Pages put one at a time, each into a block that is open when its page comes. 01's order is one such choice.
-use Prim.Native.Nat.{ℕ, zero, suc, _+_, _*_, _≤_, _<_}
+use Prim.Native.Nat.{ℕ, zero, suc, _+_, _*_, _/_, _≤_, _<_}
 use mathlib.Core.Path.{_≡_, refl, sym, ap, _∙_, subst}
 use mathlib.Core.List.{List, [], _∷_}
-use mathlib.Core.Bool.{Bool, true, not, _&&_}
+use mathlib.Core.Bool.{Bool, not, _&&_}
 use mathlib.Core.Logic.{by-cases}
 use native.Mathlib.Omega.{arith}
 use native.Mathlib.Decide.{decLt, ℕ-discrete}
 use borrow.Author.Tests.{eq-eqb, ne-eqb, lt-ltb, le-ltb, ltb-true, ltb-false}
-use lib.Arith.{digits-lt}
+use lib.Arith.{digits-lt, digits-div}
 use lib.Dec.{eqb, ltb}
 use lib.ListN.{length, getD, set, replicate, length-set, List·getD-eq-default}
 use lib.Seq.{sets, getD-set-same, getD-set-other}
-use Rattle.rules.specs.Counting.{one, count, first}
+use Rattle.rules.specs.Counting.{count, first}
 use Rattle.rules.specs.Extents.{none}
 use Rattle.rules.specs.Device.{Device, blocks, lines, at, fill, label, room, mapped, live, free}
 use Rattle.rules.specs.Placement.{putAt, putsAt, placesAt, target, targets, puts, places}
 use Rattle.laws.specs.Sums.{sum-change, sum-zero, count-all}
 use Rattle.laws.specs.Picks.{first-passes, first-least, first-found}
-use Rattle.laws.specs.Cells.{count-set, count-sets}
+use Rattle.laws.specs.Cells.{count-sets}
 use Rattle.laws.specs.Device.{Home, Sound, Blank, same-block, same-offset, page-lt, offset-lt}
 use Rattle.laws.specs.Balance.{room-other, room-reserve}
 
@@ -206,14 +206,6 @@ module _ (d : Device) (s : Sound d) (b : ℕ) (v : Open d b) (l : ℕ) (a : l < 
   put-free =
       rw put-blocks (omega (arith, put-room, sum-change (blocks d) (room (putAt b l d)) (room d) b (v .inside) (λ c h e. put-room-other c e)))
 
-  -- a line that had a page keeps the count
-  pub put-live : live (putAt b l d) + one (mapped d l) ≡ live d + 1
-  unfolding live mapped putAt
-  put-live =
-      let p = b * d .pages + fill d b in
-      count-set none (λ q. not (eqb q none)) (d .table) l p a
-      ∙ ap (λ (x : Bool). live d + one (not x)) (ne-eqb p none (λ e. omega (arith, page-lt d s b (fill d b) (v .inside) (v .below))))
-
 -- ---- several pages, into the listed blocks
 
 -- each block is open when its page comes
@@ -267,6 +259,13 @@ puts-sound l (b ∷ bs) d s v h =
     let p = put-one b l d s (v .0) (omega arith) in
     let r = puts-sound (suc l) bs (putAt b l d) (p .sound) (v .1) (omega (arith, p .lines)) in
     record { sound = r .sound; blocks = r .blocks ∙ p .blocks; lines = r .lines ∙ p .lines; free = omega (arith, r .free, p .free) }
+
+-- the i-th page lies in the i-th block
+pub places-block : (l : ℕ) (bs : List ℕ) (d : Device) → Opens l bs d → (i : ℕ) → i < length bs → getD (placesAt l bs d) i none / d .pages ≡ getD bs i 0
+unfolding placesAt putAt
+places-block l [] d v i t = absurd (omega arith)
+places-block l (b ∷ bs) d v zero t = digits-div b (v .0 .below)
+places-block l (b ∷ bs) d v (suc i) t = places-block (suc l) bs (putAt b l d) (v .1) i (omega arith)
 
 pub places-lt : (l : ℕ) (bs : List ℕ) (d : Device) → Sound d → Opens l bs d → l + length bs ≤ lines d → (i : ℕ) → i < length bs → getD (placesAt l bs d) i none < none
 unfolding placesAt

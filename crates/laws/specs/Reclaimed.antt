@@ -8,7 +8,7 @@ use native.Mathlib.Omega.{arith}
 use native.Mathlib.Decide.{decLt, ℕ-discrete}
 use borrow.Author.Tests.{eq-eqb, ne-eqb, lt-ltb, le-ltb}
 use lib.Arith.{digits-div, digits-mod}
-use lib.Dec.{eqb, ltb}
+use lib.Dec.{ltb}
 use lib.ListN.{length, getD, set, length-set, length-map, List·getD-map}
 use lib.Seq.{getD-set-same, getD-set-other}
 use Rattle.rules.specs.Counting.{one, count, most, picks}
@@ -20,7 +20,7 @@ use Rattle.laws.specs.Sums.{sum-change, sum-zero, count-same, count-none
 use Rattle.laws.specs.Picks.{most-lt, most-top, most-lowest, length-picks, picks-at, Picked, picked}
 use Rattle.laws.specs.Cells.{block-le, map-at, length-moved, moved-in, moved-rest, moved-gone, moved-other}
 use Rattle.laws.specs.Device.{Home, Sound, Blank, same-block, page-lt, offset-lt, none-block, home-block}
-use Rattle.laws.specs.Live.{named-by, named-line, named-label, named-below, count-named}
+use Rattle.laws.specs.Live.{named-by, named-label, named-below, count-named}
 use Rattle.laws.specs.Balance.{valid-named, valid-stale, valid-le, stale-reserve, balance}
 
 -- how many blocks have stale pages
@@ -37,7 +37,6 @@ pub record Within (v : ℕ) (d : Device) (l : ℕ) : Type 0 where
   pub is : at d l ≡ v * d .pages + offset
   pub below : offset < fill d v
   pub live : named d v offset ≡ true
-  pub labelled : label d (v * d .pages + offset) ≡ l
 
 pub goes-victim : (v r : ℕ) (d : Device) (o : ℕ) → o < d .pages → goes v r d (v * d .pages + o) ≡ r * d .pages + count o (named d v)
 unfolding goes
@@ -133,7 +132,6 @@ module _ (d : Device) (s : Sound d) (v : ℕ) (a : v < blocks d) (e : v ≡ d .r
         is = is;
         below = subst (λ (x : ℕ). h .offset < fill d x) same (h .below);
         live = named-by d s v a (h .offset) l z is;
-        labelled = named-line d s v a (h .offset) l z is;
       }
 
   pub re-at-within : (l : ℕ) (w : Within v d l) → at (reclaimedAt v d) l ≡ d .reserve * d .pages + count (w .offset) (named d v)
