@@ -1,4 +1,4 @@
--- Changes of the table and the last number alone: a trim, and an accepted call's number.
+-- The device that an accepted write or trim leaves: its lines, its counts, and that it is sound.
 use Prim.Native.Nat.{ℕ, _+_, _-_, _*_, _≤_, _<_}
 use mathlib.Core.Path.{_≡_, refl, ap, _∙_}
 use mathlib.Core.List.{List}
@@ -12,10 +12,12 @@ use lib.Seq.{sets, length-sets}
 use Rattle.rules.specs.Counting.{count}
 use Rattle.rules.specs.Extents.{none}
 use Rattle.rules.specs.Device.{Device, blocks, lines, at, label, room, mapped, live, stale, free}
-use Rattle.rules.specs.Number.{withTable, numbered, trimmed}
+use Rattle.rules.specs.Placement.{puts}
+use Rattle.rules.specs.Number.{withTable, numbered, written, trimmed}
 use Rattle.laws.specs.Cells.{sets-in, sets-other, replicate-at, count-wiped}
 use Rattle.laws.specs.Device.{Sound}
 use Rattle.laws.specs.Balance.{balance}
+use Rattle.laws.specs.Placed.{puts-all}
 
 -- lines may become holes
 pub fewer-sound : (t : List ℕ) (k : ℕ) (d : Device) → Sound d → length t ≡ lines d → ((l : ℕ) → (getD t l none ≡ none → ⊥) → getD t l none ≡ at d l) → Sound (withTable t k d)
@@ -40,6 +42,10 @@ fewer-free t k d = refl
 pub numbered-sound : (k : ℕ) (d : Device) → Sound d → Sound (numbered k d)
 unfolding numbered
 numbered-sound k d s = fewer-sound (d .table) k d s refl (λ l m. refl)
+
+pub written-sound : (k l n : ℕ) (d : Device) → Sound d → n ≤ free d → l + n ≤ lines d → Sound (written k l n d)
+unfolding written
+written-sound k l n d s f h = numbered-sound k (puts l n d) (puts-all l n d s f h .sound)
 
 pub trimmed-in : (k l n : ℕ) (d : Device) → l + n ≤ lines d → (j : ℕ) → l ≤ j → j < l + n → at (trimmed k l n d) j ≡ none
 unfolding trimmed withTable
