@@ -27,3 +27,8 @@ surely false h = absurd (h refl)
 pub never : (t : Bool) → (t ≡ true → ⊥) → t ≡ false
 never true h = absurd (h refl)
 never false h = refl
+
+-- two tests that pass together
+pub same-test : (a b : Bool) → (a ≡ true → b ≡ true) → (b ≡ true → a ≡ true) → a ≡ b
+same-test true b p q = sym (p refl)
+same-test false b p q = sym (never b (λ e. false≢true (q e)))

@@ -1,15 +1,17 @@
 -- Runs of stores read by index, and a block's cells copied to another block and then emptied.
-use Prim.Native.Nat.{ℕ, zero, suc, _+_, _*_, _≤_, _<_}
+use Prim.Native.Nat.{ℕ, zero, suc, _+_, _-_, _*_, _≤_, _<_}
 use mathlib.Core.Path.{_≡_, refl, sym, ap, ap₂, _∙_}
 use mathlib.Core.List.{List, [], _∷_, map}
+use mathlib.Core.Bool.{Bool, false}
 use mathlib.Core.Logic.{by-cases}
 use native.Mathlib.Omega.{arith}
 use native.Mathlib.Decide.{decLt}
 use native.Mathlib.Nat.{suc-mul, mul-le-mul-right}
 use lib.ListN.{length, getD, set, replicate, length-set, length-map, length-replicate, getD-replicate}
-use Rattle.rules.specs.Counting.{tabulate}
-use Rattle.rules.specs.Reclaim.{copied, moved}
 use lib.Seq.{sets, length-sets, getD-set-same, getD-set-other}
+use Rattle.rules.specs.Counting.{one, count, tabulate}
+use Rattle.rules.specs.Reclaim.{copied, moved}
+use Rattle.laws.specs.Sums.{count-same, count-none, count-change, count-first}
 
 pub block-le : (n b c : ℕ) → b < c → b * n + n ≤ c * n
 block-le n b c h = omega (arith, suc-mul b n, mul-le-mul-right {m = suc b} {n = c} n h)
@@ -55,6 +57,19 @@ module _ {A : Type 0} (z : A) where
       (λ a. sets-low vs l i j a)
       (λ a. by-cases (decLt j (i + length vs)) (λ b. absurd (h (omega arith) b)) (λ b. sets-high vs l i j (omega arith)))
 
+  -- what g tells at each index is the stores where they lie and the list elsewhere
+  pub sets-tells : (g : ℕ → A) (vs l : List A) (i : ℕ) → i + length vs ≤ length l
+      → ((m j : ℕ) → m < length vs → j ≡ i + m → g j ≡ getD vs m z)
+      → ((j : ℕ) → (i ≤ j → j < i + length vs → ⊥) → g j ≡ getD l j z)
+      → (j : ℕ) → g j ≡ getD (sets l i vs) j z
+  sets-tells g vs l i f stored other j =
+      let out : (i ≤ j → j < i + length vs → ⊥) → g j ≡ getD (sets l i vs) j z = λ h. other j h ∙ sym (sets-other vs l i j h) in
+      by-cases (decLt j i)
+      (λ a. out (λ b c. omega arith))
+      (λ a. by-cases (decLt j (i + length vs))
+      (λ b. stored (j - i) j (omega arith) (omega arith) ∙ sym (sets-in vs l i j (j - i) (omega arith) f (omega arith)))
+      (λ b. out (λ c d. omega arith)))
+
   pub map-at : {B : Type 0} (f : B → A) (xs : List B) (i : ℕ) (y : B) → i < length xs → getD (map f xs) i z ≡ f (getD xs i y)
   map-at f [] i y h = absurd (omega arith)
   map-at f (x ∷ xs) zero y h = refl
@@ -65,7 +80,50 @@ module _ {A : Type 0} (z : A) where
   replicate-at (suc n) zero = refl
   replicate-at (suc n) (suc i) = replicate-at n i
 
-  -- the same, one after the other
+  -- ---- how many cells pass a test, before and after stores
+
+  pub count-set : (t : A → Bool) (l : List A) (i : ℕ) (v : A) → i < length l
+      → count (length (set l i v)) (λ k. t (getD (set l i v) k z)) + one (t (getD l i z)) ≡ count (length l) (λ k. t (getD l k z)) + one (t v)
+  count-set t l i v h =
+      rw (length-set l i v) (count-change (length l) (λ k. t (getD (set l i v) k z)) (λ k. t (getD l k z)) i h (λ k a e. ap t (getD-set-other l i k v z e))
+      ∙ ap (λ (x : A). count (length l) (λ k. t (getD l k z)) + one (t x)) (getD-set-same l i v z h))
+
+  pub count-sets : (t : A → Bool) (vs l : List A) (i : ℕ) → i + length vs ≤ length l
+      → count (length (sets l i vs)) (λ k. t (getD (sets l i vs) k z)) + count (length vs) (λ k. t (getD l (i + k) z))
+      ≡ count (length l) (λ k. t (getD l k z)) + count (length vs) (λ k. t (getD vs k z))
+  unfolding count
+  count-sets t [] l i h = refl
+  count-sets t (v ∷ vs) l i h =
+      let l′ = set l i v in
+      let first : i + 0 ≡ i = omega arith in
+      let rest = count-same (length vs) (λ k. t (getD l′ (suc i + k) z)) (λ k. t (getD l (i + suc k) z))
+      (λ k a. let e : suc i + k ≡ i + suc k = omega arith in
+      ap t (getD-set-other l i (suc i + k) v z (omega arith) ∙ ap (λ (x : ℕ). getD l x z) e)) in
+      omega (
+        arith,
+        count-first (length vs) (λ k. t (getD l (i + k) z)),
+        ap (λ (x : ℕ). one (t (getD l x z))) first,
+        rest,
+        count-first (length vs) (λ k. t (getD (v ∷ vs) k z)),
+        count-set t l i v (omega arith),
+        count-sets t vs l′ (suc i) (omega (arith, length-set l i v)),
+      )
+
+  -- an empty cell fails the test
+  pub count-wiped : (t : A → Bool) → t z ≡ false → (n : ℕ) (l : List A) (i : ℕ) → i + n ≤ length l
+      → count (length (sets l i (replicate n z))) (λ k. t (getD (sets l i (replicate n z)) k z)) + count n (λ k. t (getD l (i + k) z)) ≡ count (length l) (λ k. t (getD l k z))
+  count-wiped t e n l i h =
+      let vs = replicate n z in
+      let m = length-replicate n z in
+      omega (
+        arith,
+        count-sets t vs l i (omega arith),
+        ap (λ (x : ℕ). count x (λ k. t (getD l (i + k) z))) m,
+        count-none (length vs) (λ k. t (getD vs k z)) (λ k a. ap t (replicate-at n k) ∙ e),
+      )
+
+  -- ---- cells copied one after the other
+
   unfoldable pub copies : ℕ → List ℕ → List A → List A
   copies a [] xs = xs
   copies a (p ∷ ps) xs = copies (suc a) ps (set xs a (getD xs p z))

@@ -14,3 +14,14 @@ pub mod Norm
 pub mod Read
 pub mod Slots
 pub mod Counts
+pub mod Device
+pub mod Live
+pub mod Balance
+pub mod Placed
+pub mod Lines
+pub mod Reclaimed
+pub mod Valid
+pub mod Settle
+pub mod Fresh
+pub mod Flash
+pub mod History

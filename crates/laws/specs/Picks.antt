@@ -1,7 +1,7 @@
 -- The numbers below a bound that pass a test: the least of them, the list of them, and the place of each in that list. The number with the greatest value.
 use Prim.Native.Nat.{ℕ, zero, suc, _≤_, _<_}
 use mathlib.Core.Path.{_≡_, refl, sym, ap, _∙_, subst}
-use mathlib.Core.List.{List, [], _∷_, _++_}
+use mathlib.Core.List.{List, [], _∷_, _++_, append-nil}
 use mathlib.Core.Bool.{Bool, true, false, cond, false≢true}
 use mathlib.Core.Logic.{by-cases}
 use native.Mathlib.Omega.{arith}
@@ -88,6 +88,18 @@ pub length-picks : (n : ℕ) (t : ℕ → Bool) → length (picks n t) ≡ count
 unfolding picks count
 length-picks zero t = refl
 length-picks (suc n) t = omega (arith, length-append (picks n t) (kept n (t n)), length-picks n t, length-kept n (t n))
+
+-- none passes from n on
+pub picks-short : (n m : ℕ) (t : ℕ → Bool) → n ≤ m → ((i : ℕ) → n ≤ i → i < m → t i ≡ false) → picks m t ≡ picks n t
+unfolding picks
+picks-short n zero t h none = let e : n ≡ 0 = omega arith in rw e
+picks-short n (suc m) t h none =
+    by-cases (ℕ-discrete n (suc m))
+    (λ e. rw e)
+    (λ e. rw (none m (omega arith) (omega arith)) (append-nil (picks m t) ∙ picks-short n m t (omega arith) (λ i p q. none i p (omega arith))))
+
+pub count-short : (n m : ℕ) (t : ℕ → Bool) → n ≤ m → ((i : ℕ) → n ≤ i → i < m → t i ≡ false) → count m t ≡ count n t
+count-short n m t h none = sym (length-picks m t) ∙ ap length (picks-short n m t h none) ∙ length-picks n t
 
 -- the place of one that passes is the number of those before it
 pub picks-at : (n : ℕ) (t : ℕ → Bool) (k d : ℕ) → k < n → t k ≡ true → getD (picks n t) (count k t) d ≡ k

@@ -86,6 +86,9 @@ unfolding count
 count-none zero t h = refl
 count-none (suc n) t h = omega (arith, count-none n t (λ i s. h i (omega arith)), ap one (h n (omega arith)))
 
+pub count-all : (n : ℕ) (t : ℕ → Bool) → ((i : ℕ) → i < n → t i ≡ true) → count n t ≡ n
+count-all n t h = omega (arith, count-not n t, count-none n (λ i. not (t i)) (λ i s. ap not (h i s)))
+
 pub one-le : (b : Bool) → one b ≤ 1
 one-le true = omega arith
 one-le false = omega arith

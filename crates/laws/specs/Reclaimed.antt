@@ -1,0 +1,412 @@
+-- A block reclaimed: its live pages go to the reserve, and it becomes the reserve. The victim is a block that gains most.
+use Prim.Native.Nat.{ℕ, _+_, _*_, _/_, _≤_, _<_}
+use mathlib.Core.Path.{_≡_, refl, sym, ap, _∙_, subst}
+use mathlib.Core.List.{List, map}
+use mathlib.Core.Bool.{true, not}
+use mathlib.Core.Logic.{by-cases}
+use native.Mathlib.Omega.{arith}
+use native.Mathlib.Decide.{decLt, ℕ-discrete}
+use borrow.Author.Tests.{eq-eqb, ne-eqb, lt-ltb, le-ltb}
+use lib.Arith.{digits-div, digits-mod}
+use lib.Dec.{ltb}
+use lib.ListN.{length, getD, set, length-set, length-map, List·getD-map}
+use lib.Seq.{getD-set-same, getD-set-other}
+use Rattle.rules.specs.Counting.{one, count, most, picks}
+use Rattle.rules.specs.Extents.{none}
+use Rattle.rules.specs.Device.{Device, blocks, lines, at, fill, label, mapped, named, valid, staleIn, stale, live, free}
+use Rattle.rules.specs.Reclaim.{victim, sources, goes, moved, reclaimedAt, reclaimed}
+use Rattle.laws.specs.Bools.{same-test}
+use Rattle.laws.specs.Sums.{sum-change, sum-zero, count-same, count-none, count-rise, count-change}
+use Rattle.laws.specs.Picks.{most-lt, most-top, most-lowest, length-picks, picks-at, Picked, picked}
+use Rattle.laws.specs.Cells.{block-le, map-at, length-moved, moved-in, moved-rest, moved-gone, moved-other}
+use Rattle.laws.specs.Device.{Home, Sound, Blank, same-block, page-lt, offset-lt, none-block, home-block}
+use Rattle.laws.specs.Live.{named-by, named-label, named-below, count-named}
+use Rattle.laws.specs.Balance.{valid-named, valid-stale, valid-le, stale-reserve, balance}
+
+-- how many blocks have stale pages
+unfoldable pub staleBlocks : Device → ℕ
+staleBlocks d = count (blocks d) (λ b. ltb 0 (staleIn d b))
+
+-- the offset of the i-th live page of block v
+unfoldable pub nth : ℕ → Device → ℕ → ℕ
+nth v d i = getD (picks (d .pages) (named d v)) i 0
+
+-- line l has a live page in block v
+pub record Within (v : ℕ) (d : Device) (l : ℕ) : Type 0 where
+  pub offset : ℕ
+  pub is : at d l ≡ v * d .pages + offset
+  pub below : offset < fill d v
+  pub live : named d v offset ≡ true
+
+pub goes-victim : (v r : ℕ) (d : Device) (o : ℕ) → o < d .pages → goes v r d (v * d .pages + o) ≡ r * d .pages + count o (named d v)
+unfolding goes
+goes-victim v r d o h = rw (eq-eqb ((v * d .pages + o) / d .pages) v (digits-div v h), digits-mod v h)
+
+pub goes-other : (v r : ℕ) (d : Device) (p : ℕ) → (p / d .pages ≡ v → ⊥) → goes v r d p ≡ p
+unfolding goes
+goes-other v r d p e = rw (ne-eqb (p / d .pages) v e)
+
+module _ (d : Device) (s : Sound d) (v : ℕ) (a : v < blocks d) (e : v ≡ d .reserve → ⊥) where
+  -- ---- what it is made of
+
+  pub re-pages : reclaimedAt v d .pages ≡ d .pages
+  unfolding reclaimedAt
+  re-pages = refl
+
+  pub re-reserve : reclaimedAt v d .reserve ≡ v
+  unfolding reclaimedAt
+  re-reserve = refl
+
+  pub re-slots : reclaimedAt v d .slots ≡ d .slots
+  unfolding reclaimedAt
+  re-slots = refl
+
+  pub re-last : reclaimedAt v d .last ≡ d .last
+  unfolding reclaimedAt
+  re-last = refl
+
+  pub re-blocks : blocks (reclaimedAt v d) ≡ blocks d
+  unfolding reclaimedAt
+  re-blocks = length-set (set (d .fills) (d .reserve) (valid d v)) v 0 ∙ length-set (d .fills) (d .reserve) (valid d v)
+
+  pub re-lines : lines (reclaimedAt v d) ≡ lines d
+  unfolding reclaimedAt
+  re-lines = length-map (d .table) (goes v (d .reserve) d)
+
+  pub re-at : (l : ℕ) → at (reclaimedAt v d) l ≡ goes v (d .reserve) d (at d l)
+  unfolding reclaimedAt
+  re-at l =
+      let z : goes v (d .reserve) d none ≡ none = goes-other v (d .reserve) d none (none-block d s v a) in
+      subst (λ (x : ℕ). getD (map (goes v (d .reserve) d) (d .table)) l x ≡ goes v (d .reserve) d (at d l)) z (List·getD-map (goes v (d .reserve) d) (d .table) l none)
+
+  pub re-fill-victim : fill (reclaimedAt v d) v ≡ 0
+  unfolding reclaimedAt
+  re-fill-victim = getD-set-same (set (d .fills) (d .reserve) (valid d v)) v 0 0 (omega (arith, length-set (d .fills) (d .reserve) (valid d v)))
+
+  pub re-fill-reserve : fill (reclaimedAt v d) (d .reserve) ≡ valid d v
+  unfolding reclaimedAt
+  re-fill-reserve =
+      getD-set-other (set (d .fills) (d .reserve) (valid d v)) v (d .reserve) 0 0 (λ g. e (sym g))
+      ∙ getD-set-same (d .fills) (d .reserve) (valid d v) 0 (s .kept)
+
+  pub re-fill : (c : ℕ) → (c ≡ v → ⊥) → (c ≡ d .reserve → ⊥) → fill (reclaimedAt v d) c ≡ fill d c
+  unfolding reclaimedAt
+  re-fill c f g =
+      getD-set-other (set (d .fills) (d .reserve) (valid d v)) v c 0 0 f
+      ∙ getD-set-other (d .fills) (d .reserve) c (valid d v) 0 g
+
+  valid-picks : valid d v ≡ count (d .pages) (named d v)
+  valid-picks = valid-named d s v a ∙ sym (count-named d s v a)
+
+  pub length-sources : length (sources v d) ≡ valid d v
+  unfolding sources
+  length-sources =
+      length-map (picks (d .pages) (named d v)) (λ o. v * d .pages + o) ∙ length-picks (d .pages) (named d v) ∙ sym valid-picks
+
+  pub few-sources : length (sources v d) ≤ d .pages
+  few-sources = omega (arith, length-sources, valid-le d s v a)
+
+  pub source : (i : ℕ) → i < valid d v → Picked (d .pages) (named d v) i (nth v d i)
+  unfolding nth
+  source i h = picked (d .pages) (named d v) i 0 (omega (arith, valid-picks))
+
+  pub source-page : (i y : ℕ) → i < valid d v → getD (sources v d) i y ≡ v * d .pages + nth v d i
+  unfolding sources nth
+  source-page i y h =
+      map-at y (λ o. v * d .pages + o) (picks (d .pages) (named d v)) i 0 (omega (arith, length-picks (d .pages) (named d v), valid-picks))
+
+  pub source-below : (i : ℕ) → i < valid d v → nth v d i < fill d v
+  source-below i h = let k = source i h in named-below d s v a (nth v d i) (k .below) (k .passes)
+
+  -- ---- where a line's page goes
+
+  pub within : (l : ℕ) → at d l / d .pages ≡ v → Within v d l
+  within l q =
+      let m : at d l ≡ none → ⊥ = λ g. none-block d s v a (sym (ap (λ (x : ℕ). x / d .pages) g) ∙ q) in
+      let h = s .home l m in
+      let z = offset-lt d s l m in
+      let same : h .block ≡ v = sym (home-block d s l m) ∙ q in
+      let is : at d l ≡ v * d .pages + h .offset = h .is ∙ ap (λ (x : ℕ). x * d .pages + h .offset) same in
+      record {
+        offset = h .offset;
+        is = is;
+        below = subst (λ (x : ℕ). h .offset < fill d x) same (h .below);
+        live = named-by d s v a (h .offset) l z is;
+      }
+
+  pub re-at-within : (l : ℕ) (w : Within v d l) → at (reclaimedAt v d) l ≡ d .reserve * d .pages + count (w .offset) (named d v)
+  re-at-within l w = re-at l ∙ ap (goes v (d .reserve) d) (w .is) ∙ goes-victim v (d .reserve) d (w .offset) (omega (arith, w .below, s .full v a))
+
+  pub re-at-other : (l : ℕ) → (at d l / d .pages ≡ v → ⊥) → at (reclaimedAt v d) l ≡ at d l
+  re-at-other l q = re-at l ∙ goes-other v (d .reserve) d (at d l) q
+
+  pub rank-lt : (l : ℕ) (w : Within v d l) → count (w .offset) (named d v) < valid d v
+  rank-lt l w = omega (arith, valid-named d s v a, count-rise (w .offset) (fill d v) (named d v) (w .below) (w .live))
+
+  pub nth-rank : (l : ℕ) (w : Within v d l) → nth v d (count (w .offset) (named d v)) ≡ w .offset
+  unfolding nth
+  nth-rank l w = picks-at (d .pages) (named d v) (w .offset) 0 (omega (arith, w .below, s .full v a)) (w .live)
+
+  pub re-hole : (l : ℕ) → at d l ≡ none → at (reclaimedAt v d) l ≡ none
+  re-hole l g = re-at-other l (λ q. none-block d s v a (sym (ap (λ (x : ℕ). x / d .pages) g) ∙ q)) ∙ g
+
+  pub re-some : (l : ℕ) → (at d l ≡ none → ⊥) → at (reclaimedAt v d) l ≡ none → ⊥
+  re-some l m g =
+      by-cases (ℕ-discrete (at d l / d .pages) v)
+      (λ q. let w = within l q in
+      let z = rank-lt l w in
+      omega (arith, re-at-within l w, page-lt d s (d .reserve) (count (w .offset) (named d v)) (s .kept) (omega (arith, valid-le d s v a))))
+      (λ q. m (sym (re-at-other l q) ∙ g))
+
+  -- ---- cells of the device, labels or contents, with the victim's copied and then emptied
+
+  three : {C : Type 0} (c : ℕ) → (c ≡ v → C) → (c ≡ d .reserve → C) → ((c ≡ v → ⊥) → (c ≡ d .reserve → ⊥) → C) → C
+  three c x y z = by-cases (ℕ-discrete c v) x (λ f. by-cases (ℕ-discrete c (d .reserve)) y (z f))
+
+  module _ {A : Type 0} (z : A) (xs : List A) (w : length xs ≡ blocks d * d .pages) where
+    fits : (c : ℕ) → c < blocks d → c * d .pages + d .pages ≤ length xs
+    fits c h = omega (arith, block-le (d .pages) c (blocks d) h)
+
+    carried-in : (i : ℕ) → i < valid d v → getD (moved z (d .pages) (d .reserve) v (sources v d) xs) (d .reserve * d .pages + i) z ≡ getD xs (v * d .pages + nth v d i) z
+    carried-in i h =
+        moved-in z (d .pages) (d .reserve) v (sources v d) xs few-sources (fits (d .reserve) (s .kept)) (fits v a) e i 0 (omega (arith, length-sources))
+        ∙ ap (λ (p : ℕ). getD xs p z) (source-page i 0 h)
+
+    carried-other : (c o : ℕ) → (c ≡ v → ⊥) → (c ≡ d .reserve → ⊥) → o < d .pages
+        → getD (moved z (d .pages) (d .reserve) v (sources v d) xs) (c * d .pages + o) z ≡ getD xs (c * d .pages + o) z
+    carried-other c o f g h = moved-other z (d .pages) (d .reserve) v (sources v d) xs few-sources (fits (d .reserve) (s .kept)) (fits v a) e c o f g h
+
+    -- the cell of a mapped page goes where the page goes
+    pub carried-kept : (l : ℕ) → (at d l ≡ none → ⊥) → getD (moved z (d .pages) (d .reserve) v (sources v d) xs) (at (reclaimedAt v d) l) z ≡ getD xs (at d l) z
+    carried-kept l m =
+        let ys = moved z (d .pages) (d .reserve) v (sources v d) xs in
+        by-cases (ℕ-discrete (at d l / d .pages) v)
+        (λ q. let y = within l q in
+        ap (λ (p : ℕ). getD ys p z) (re-at-within l y)
+        ∙ carried-in (count (y .offset) (named d v)) (rank-lt l y)
+        ∙ ap (λ (o : ℕ). getD xs (v * d .pages + o) z) (nth-rank l y)
+        ∙ sym (ap (λ (p : ℕ). getD xs p z) (y .is)))
+        (λ q. let h = s .home l m in
+        ap (λ (p : ℕ). getD ys p z) (re-at-other l q ∙ h .is)
+        ∙ carried-other (h .block) (h .offset) (λ g. q (home-block d s l m ∙ g)) (λ g. omega (arith, h .below, s .empty, ap (fill d) g)) (offset-lt d s l m)
+        ∙ sym (ap (λ (p : ℕ). getD xs p z) (h .is)))
+
+    pub carried-blank : Blank z xs d → Blank z (moved z (d .pages) (d .reserve) v (sources v d) xs) (reclaimedAt v d)
+    carried-blank y c o h k i =
+        let h′ : c < blocks d = rw re-blocks at h in
+        let i′ : o < d .pages = rw re-pages at i in
+        rw re-pages (three c
+        (λ q. rw q (moved-gone z (d .pages) (d .reserve) v (sources v d) xs few-sources (fits (d .reserve) (s .kept)) (fits v a) e o i′))
+        (λ q. let t : valid d v ≤ o = omega (arith, ap (fill (reclaimedAt v d)) q, re-fill-reserve) in
+        rw q (moved-rest z (d .pages) (d .reserve) v (sources v d) xs few-sources (fits (d .reserve) (s .kept)) (fits v a) e o (omega (arith, length-sources)) i′
+        ∙ y (d .reserve) o (s .kept) (omega (arith, s .empty)) i′))
+        (λ f g. carried-other c o f g i′ ∙ y c o h′ (rw (re-fill c f g) at k) i′))
+
+  -- ---- soundness
+
+  re-label-in : (i : ℕ) → i < valid d v → label (reclaimedAt v d) (d .reserve * d .pages + i) ≡ label d (v * d .pages + nth v d i)
+  unfolding reclaimedAt
+  re-label-in i h = carried-in none (d .spare) (s .whole) i h
+
+  re-label-other : (c o : ℕ) → (c ≡ v → ⊥) → (c ≡ d .reserve → ⊥) → o < d .pages → label (reclaimedAt v d) (c * d .pages + o) ≡ label d (c * d .pages + o)
+  unfolding reclaimedAt
+  re-label-other c o f g h = carried-other none (d .spare) (s .whole) c o f g h
+
+  re-label-kept : (l : ℕ) → (at d l ≡ none → ⊥) → label (reclaimedAt v d) (at (reclaimedAt v d) l) ≡ label d (at d l)
+  unfolding reclaimedAt
+  re-label-kept l m = carried-kept none (d .spare) (s .whole) l m
+
+  re-blank : Blank none (reclaimedAt v d .spare) (reclaimedAt v d)
+  unfolding reclaimedAt
+  re-blank = carried-blank none (d .spare) (s .whole) (s .blank)
+
+  re-home : (l : ℕ) → (at (reclaimedAt v d) l ≡ none → ⊥) → Home (reclaimedAt v d) l (at (reclaimedAt v d) l)
+  re-home l m =
+      let m′ : at d l ≡ none → ⊥ = λ g. m (re-hole l g) in
+      let h = s .home l m′ in
+      let labelled = re-label-kept l m′ ∙ h .labelled in
+      by-cases (ℕ-discrete (at d l / d .pages) v)
+      (λ q. let w = within l q in
+      record {
+        block = d .reserve;
+        offset = count (w .offset) (named d v);
+        is = rw re-pages (re-at-within l w);
+        inside = rw re-blocks (s .kept);
+        below = rw re-fill-reserve (rank-lt l w);
+        labelled = labelled;
+      })
+      (λ q. record {
+        block = h .block;
+        offset = h .offset;
+        is = rw re-pages (re-at-other l q ∙ h .is);
+        inside = rw re-blocks (h .inside);
+        below = rw (re-fill (h .block) (λ g. q (home-block d s l m′ ∙ g)) (λ g. omega (arith, h .below, s .empty, ap (fill d) g))) (h .below);
+        labelled = labelled;
+      })
+
+  re-whole : length (reclaimedAt v d .spare) ≡ blocks (reclaimedAt v d) * reclaimedAt v d .pages
+  unfolding reclaimedAt
+  re-whole = length-moved none (d .pages) (d .reserve) v (sources v d) (d .spare) ∙ s .whole ∙ sym (ap (λ (x : ℕ). x * d .pages) re-blocks)
+
+  re-full : (c : ℕ) → c < blocks d → fill (reclaimedAt v d) c ≤ d .pages
+  re-full c h =
+      three c
+      (λ q. rw (q, re-fill-victim) (omega arith))
+      (λ q. rw (q, re-fill-reserve) (valid-le d s v a))
+      (λ f g. rw (re-fill c f g) (s .full c h))
+
+  re-labels : (c o : ℕ) → c < blocks d → o < fill (reclaimedAt v d) c → label (reclaimedAt v d) (c * d .pages + o) < lines d
+  re-labels c o h k =
+      three c
+      (λ q. absurd (omega (arith, ap (fill (reclaimedAt v d)) q, re-fill-victim)))
+      (λ q. let i : o < valid d v = omega (arith, ap (fill (reclaimedAt v d)) q, re-fill-reserve) in
+      rw (q, re-label-in o i) (s .labels v (nth v d o) a (source-below o i)))
+      (λ f g. let i : o < fill d c = rw (re-fill c f g) at k in
+      rw (re-label-other c o f g (omega (arith, s .full c h))) (s .labels c o h i))
+
+  pub re-sound : Sound (reclaimedAt v d)
+  re-sound = record {
+    some = rw re-pages (s .some);
+    words = rw (re-blocks, re-pages) (s .words);
+    whole = re-whole;
+    full = λ c h. rw re-pages (re-full c (rw re-blocks at h));
+    labels = λ c o h k. rw (re-pages, re-lines) (re-labels c o (rw re-blocks at h) k);
+    blank = re-blank;
+    home = re-home;
+    kept = rw (re-blocks, re-reserve) a;
+    empty = rw re-reserve re-fill-victim;
+  }
+
+  -- ---- counts
+
+  pub re-mapped : (l : ℕ) → mapped (reclaimedAt v d) l ≡ mapped d l
+  unfolding mapped
+  re-mapped l =
+      by-cases (ℕ-discrete (at d l) none)
+      (λ g. rw (g, re-hole l g))
+      (λ m. rw (ne-eqb (at d l) none m, ne-eqb (at (reclaimedAt v d) l) none (re-some l m)))
+
+  pub re-live : live (reclaimedAt v d) ≡ live d
+  unfolding live
+  re-live = rw re-lines (count-same (lines d) (mapped (reclaimedAt v d)) (mapped d) (λ l t. re-mapped l))
+
+  -- pages of the other blocks stay what they were
+  re-named-other : (c o : ℕ) → c < blocks d → o < d .pages → (c ≡ v → ⊥) → (c ≡ d .reserve → ⊥) → named (reclaimedAt v d) c o ≡ named d c o
+  re-named-other c o h k f g =
+      let d′ = reclaimedAt v d in
+      let p = c * d .pages + o in
+      let h′ : c < blocks d′ = omega (arith, re-blocks) in
+      let k′ : o < d′ .pages = omega (arith, re-pages) in
+      same-test (named d′ c o) (named d c o)
+      (λ t. let l = label d′ (c * d′ .pages + o) in
+      let is : at d′ l ≡ p = named-label d′ re-sound c h′ o k′ t ∙ ap (λ (n : ℕ). c * n + o) re-pages in
+      by-cases (ℕ-discrete (at d l / d .pages) v)
+      (λ q. let w = within l q in
+      let r = rank-lt l w in
+      absurd (g (sym (same-block (d .pages) (d .reserve) c (count (w .offset) (named d v)) o (omega (arith, valid-le d s v a)) k (sym (re-at-within l w) ∙ is)))))
+      (λ q. named-by d s c h o l k (sym (re-at-other l q) ∙ is)))
+      (λ t. let l = label d p in
+      let is = named-label d s c h o k t in
+      let q : at d l / d .pages ≡ v → ⊥ = λ y. f (sym (digits-div c k) ∙ sym (ap (λ (x : ℕ). x / d .pages) is) ∙ y) in
+      named-by d′ re-sound c h′ o l k′ (re-at-other l q ∙ is ∙ sym (ap (λ (n : ℕ). c * n + o) re-pages)))
+
+  -- what went to the reserve is live
+  re-named-in : (i : ℕ) → i < valid d v → named (reclaimedAt v d) (d .reserve) i ≡ true
+  re-named-in i h =
+      let k = source i h in
+      let l = label d (v * d .pages + nth v d i) in
+      named-by (reclaimedAt v d) re-sound (d .reserve) (omega (arith, re-blocks, s .kept)) i l (omega (arith, re-pages, valid-le d s v a))
+      (re-at l ∙ ap (goes v (d .reserve) d) (named-label d s v a (nth v d i) (k .below) (k .passes))
+      ∙ goes-victim v (d .reserve) d (nth v d i) (k .below)
+      ∙ ap (λ (x : ℕ). d .reserve * d .pages + x) (k .place)
+      ∙ sym (ap (λ (n : ℕ). d .reserve * n + i) re-pages))
+
+  pub re-stale-victim : staleIn (reclaimedAt v d) v ≡ 0
+  re-stale-victim = omega (arith, valid-stale (reclaimedAt v d) re-sound v (omega (arith, re-blocks)), re-fill-victim)
+
+  pub re-stale-other : (c : ℕ) → c < blocks d → (c ≡ v → ⊥) → staleIn (reclaimedAt v d) c ≡ staleIn d c
+  unfolding staleIn
+  re-stale-other c h f =
+      by-cases (ℕ-discrete c (d .reserve))
+      (λ g. rw (g, re-fill-reserve) (count-none (valid d v) (λ o. not (named (reclaimedAt v d) (d .reserve) o)) (λ i t. ap not (re-named-in i t)) ∙ sym (stale-reserve d s)))
+      (λ g. rw (re-fill c f g) (count-same (fill d c) (λ o. not (named (reclaimedAt v d) c o)) (λ o. not (named d c o)) (λ o t. ap not (re-named-other c o h (omega (arith, s .full c h)) f g))))
+
+  pub re-stale-reserve : staleIn (reclaimedAt v d) (d .reserve) ≡ 0
+  re-stale-reserve = re-stale-other (d .reserve) (s .kept) (λ g. e (sym g)) ∙ stale-reserve d s
+
+  pub re-stale : stale (reclaimedAt v d) + staleIn d v ≡ stale d
+  unfolding stale
+  re-stale =
+      rw re-blocks (omega (arith, re-stale-victim, sum-change (blocks d) (staleIn (reclaimedAt v d)) (staleIn d) v a (λ c h f. re-stale-other c h f)))
+
+  -- blocks with stale pages: the victim is one less
+  pub re-stale-blocks : 0 < staleIn d v → staleBlocks (reclaimedAt v d) + 1 ≡ staleBlocks d
+  unfolding staleBlocks
+  re-stale-blocks h =
+      rw re-blocks (omega (
+        arith,
+        ap one (le-ltb 0 (staleIn (reclaimedAt v d) v) (omega (arith, re-stale-victim))),
+        ap one (lt-ltb 0 (staleIn d v) h),
+        count-change (blocks d) (λ b. ltb 0 (staleIn (reclaimedAt v d) b)) (λ b. ltb 0 (staleIn d b)) v a (λ c t f. ap (ltb 0) (re-stale-other c t f)),
+      ))
+
+-- ---- the victim
+
+pub record Chosen (d : Device) (v : ℕ) : Type 0 where
+  pub inside : v < blocks d
+  pub other : v ≡ d .reserve → ⊥
+  pub gains : 0 < staleIn d v
+  pub top : (b : ℕ) → b < blocks d → staleIn d b ≤ staleIn d v
+  pub lowest : (b : ℕ) → b < v → staleIn d b < staleIn d v
+
+pub victim-chosen : (d : Device) → Sound d → 0 < stale d → Chosen d (victim d)
+unfolding victim stale
+victim-chosen d s h =
+    let gains : 0 < staleIn d (most (blocks d) (staleIn d)) =
+    by-cases (decLt 0 (staleIn d (most (blocks d) (staleIn d))))
+    (λ g. g)
+    (λ g. absurd (omega (arith, sum-zero (blocks d) (staleIn d) (λ b t. omega (arith, most-top (blocks d) (staleIn d) b t))))) in
+    record {
+      inside = most-lt (blocks d) (staleIn d) (omega (arith, s .kept));
+      other = λ e. omega (arith, ap (staleIn d) e, stale-reserve d s);
+      gains = gains;
+      top = most-top (blocks d) (staleIn d);
+      lowest = most-lowest (blocks d) (staleIn d);
+    }
+
+pub record Reclaimed (d e : Device) (v : ℕ) : Type 0 where
+  pub sound : Sound e
+  pub pages : e .pages ≡ d .pages
+  pub blocks : length (e .fills) ≡ length (d .fills)
+  pub lines : length (e .table) ≡ length (d .table)
+  pub slots : e .slots ≡ d .slots
+  pub reserve : e .reserve ≡ v
+  pub last : e .last ≡ d .last
+  pub live : live e ≡ live d
+  pub stale : stale e + staleIn d v ≡ stale d
+  pub free : free e ≡ free d + staleIn d v
+  pub staleBlocks : staleBlocks e + 1 ≡ staleBlocks d
+
+pub reclaim-all : (d : Device) → Sound d → 0 < stale d → Reclaimed d (reclaimed d) (victim d)
+unfolding reclaimed
+reclaim-all d s h =
+    let c = victim-chosen d s h in
+    let v = victim d in
+    let z = re-sound d s v (c .inside) (c .other) in
+    let b = re-blocks d s v (c .inside) (c .other) in
+    let n = re-pages d s v (c .inside) (c .other) in
+    let l = re-live d s v (c .inside) (c .other) in
+    let t = re-stale d s v (c .inside) (c .other) in
+    record {
+      sound = z;
+      pages = n;
+      blocks = b;
+      lines = re-lines d s v (c .inside) (c .other);
+      slots = re-slots d s v (c .inside) (c .other);
+      reserve = re-reserve d s v (c .inside) (c .other);
+      last = re-last d s v (c .inside) (c .other);
+      live = l;
+      stale = t;
+      free = omega (arith, balance d s, balance (reclaimedAt v d) z, ap (λ (x : ℕ). x * reclaimedAt v d .pages) b, ap (λ (x : ℕ). blocks d * x) n);
+      staleBlocks = re-stale-blocks d s v (c .inside) (c .other) (c .gains);
+    }
