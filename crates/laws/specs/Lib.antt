@@ -25,3 +25,6 @@ pub mod Settle
 pub mod Fresh
 pub mod Flash
 pub mod History
+pub mod Sane
+pub mod Host
+pub mod Until
