@@ -33,7 +33,9 @@ impl fmt::Display for Fault {
         match self {
             Fault::Outside { page } => write!(f, "page {page} lies outside the flash"),
             Fault::ProgrammedTwice { page } => write!(f, "page {page} is programmed twice"),
-            Fault::OutOfOrder { page } => write!(f, "page {page} is programmed before an earlier one"),
+            Fault::OutOfOrder { page } => {
+                write!(f, "page {page} is programmed before an earlier one")
+            }
             Fault::CopyOfErased { page } => write!(f, "page {page} is copied but erased"),
             Fault::ReadOfErased { page } => write!(f, "page {page} is read but erased"),
         }
@@ -45,7 +47,10 @@ impl std::error::Error for Fault {}
 impl Flash {
     /// An erased flash.
     pub fn erased(blocks: u32, pages: u32) -> Flash {
-        Flash { pages, contents: vec![None; blocks as usize * pages as usize] }
+        Flash {
+            pages,
+            contents: vec![None; blocks as usize * pages as usize],
+        }
     }
 
     /// What a page holds; none if it is erased or outside.
@@ -61,7 +66,7 @@ impl Flash {
         if self.contents[index].is_some() {
             return Err(Fault::ProgrammedTwice { page });
         }
-        let first_of_block = page % self.pages == 0;
+        let first_of_block = page.is_multiple_of(self.pages);
         if !first_of_block && self.contents[index - 1].is_none() {
             return Err(Fault::OutOfOrder { page });
         }
@@ -70,7 +75,9 @@ impl Flash {
     }
 
     pub fn copy(&mut self, source: u32, target: u32) -> Result<(), Fault> {
-        let contents = self.contents(source).ok_or(Fault::CopyOfErased { page: source })?;
+        let contents = self
+            .contents(source)
+            .ok_or(Fault::CopyOfErased { page: source })?;
         self.program(target, contents)
     }
 
@@ -117,6 +124,8 @@ impl Flash {
             return Ok(None);
         }
         let page = physical + k;
-        self.contents(page).map(Some).ok_or(Fault::ReadOfErased { page })
+        self.contents(page)
+            .map(Some)
+            .ok_or(Fault::ReadOfErased { page })
     }
 }

@@ -8,7 +8,7 @@ impl Random {
         Random(seed.wrapping_mul(0x9E37_79B9_7F4A_7C15) | 1)
     }
 
-    pub fn next(&mut self) -> u64 {
+    pub fn draw(&mut self) -> u64 {
         self.0 ^= self.0 >> 12;
         self.0 ^= self.0 << 25;
         self.0 ^= self.0 >> 27;
@@ -18,7 +18,7 @@ impl Random {
     /// From `least` up to and including `most`.
     pub fn between(&mut self, least: u32, most: u32) -> u32 {
         let width = u64::from(most - least) + 1;
-        least + ((self.next() >> 32) * width >> 32) as u32
+        least + (((self.draw() >> 32) * width) >> 32) as u32
     }
 
     /// True once in `times`.

@@ -40,7 +40,11 @@ pub fn device_of(head: Head, words: &Words) -> Option<Device> {
 fn extents_in_use(head: Head, words: &Words) -> Vec<Extent> {
     words.extents[..3 * head.used as usize]
         .chunks_exact(3)
-        .map(|slot| Extent { logical: slot[0], physical: slot[1], count: slot[2] })
+        .map(|slot| Extent {
+            logical: slot[0],
+            physical: slot[1],
+            count: slot[2],
+        })
         .collect()
 }
 
@@ -78,7 +82,10 @@ fn rule_2(head: Head, extents: &[Extent]) -> bool {
     let inside = extents
         .iter()
         .all(|e| u64::from(e.physical) / pages == (end(e.physical, e.count) - 1) / pages);
-    inside && !extents.windows(2).any(|pair| joinable(head, pair[0], pair[1]))
+    inside
+        && !extents
+            .windows(2)
+            .any(|pair| joinable(head, pair[0], pair[1]))
 }
 
 fn joinable(head: Head, first: Extent, next: Extent) -> bool {
@@ -96,10 +103,13 @@ fn rule_3(head: Head, words: &Words) -> bool {
             return false;
         }
         let (below, from) = labels.split_at(fill as usize);
-        below.iter().all(|&label| label < head.logical)
-            && from.iter().all(|&label| label == ERASED)
+        below.iter().all(|&label| label < head.logical) && from.iter().all(|&label| label == ERASED)
     };
-    words.spare.chunks_exact(head.pages as usize).enumerate().all(in_block)
+    words
+        .spare
+        .chunks_exact(head.pages as usize)
+        .enumerate()
+        .all(in_block)
 }
 
 /// 01, a sound state, rule 4: each mapped page lies below B x N and below its
@@ -135,7 +145,10 @@ fn table_of(head: Head, extents: &[Extent], words: &Words) -> Device {
     let mut device = Device::fresh(head.blocks, head.pages, head.logical, head.slots);
     for e in extents {
         let lines = &mut device.table[e.logical as usize..(e.logical + e.count) as usize];
-        lines.iter_mut().zip(e.physical..).for_each(|(line, page)| *line = page);
+        lines
+            .iter_mut()
+            .zip(e.physical..)
+            .for_each(|(line, page)| *line = page);
     }
     device.fills = (0..head.blocks).map(|block| fill(words, block)).collect();
     device.spare.copy_from_slice(&words.spare);
