@@ -117,11 +117,7 @@ impl Device {
 
     /// 01, report.
     pub fn report(&self) -> Space {
-        Space {
-            free: self.free(),
-            live: self.live(),
-            stale: self.stale(),
-        }
+        Space { free: self.free(), live: self.live(), stale: self.stale() }
     }
 
     /// The map as extents: mapped pages in maximal joinable runs inside blocks.
@@ -167,9 +163,7 @@ impl Device {
     /// The count of stale pages.
     fn stale(&self) -> u32 {
         let owners = self.owners();
-        (0..self.blocks)
-            .map(|block| self.stale_in(block, &owners))
-            .sum()
+        (0..self.blocks).map(|block| self.stale_in(block, &owners)).sum()
     }
 
     /// The logical page that maps to each physical page, or [`HOLE`].
@@ -191,10 +185,7 @@ impl Device {
 
     /// A programmed page is stale when no logical page maps to it.
     fn stale_in(&self, block: u32, owners: &[u32]) -> u32 {
-        owners[self.programmed(block)]
-            .iter()
-            .filter(|&&owner| owner == HOLE)
-            .count() as u32
+        owners[self.programmed(block)].iter().filter(|&&owner| owner == HOLE).count() as u32
     }
 
     /// The block with most stale pages, lowest number on a tie; none if no page
@@ -222,11 +213,7 @@ impl Device {
             let page = self.program(block, l);
             match pieces.last_mut() {
                 Some(piece) if last_block == Some(block) => piece.count += 1,
-                _ => pieces.push(Extent {
-                    logical: l,
-                    physical: page,
-                    count: 1,
-                }),
+                _ => pieces.push(Extent { logical: l, physical: page, count: 1 }),
             }
             last_block = Some(block);
         }
@@ -276,11 +263,7 @@ impl Device {
             let page = self.table[l as usize];
             match pieces.last_mut() {
                 Some(piece) if self.continues(*piece, page) => piece.count += 1,
-                _ => pieces.push(Extent {
-                    logical: l,
-                    physical: page,
-                    count: 1,
-                }),
+                _ => pieces.push(Extent { logical: l, physical: page, count: 1 }),
             }
         }
         pieces

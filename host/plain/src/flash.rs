@@ -47,10 +47,7 @@ impl std::error::Error for Fault {}
 impl Flash {
     /// An erased flash.
     pub fn erased(blocks: u32, pages: u32) -> Flash {
-        Flash {
-            pages,
-            contents: vec![None; blocks as usize * pages as usize],
-        }
+        Flash { pages, contents: vec![None; blocks as usize * pages as usize] }
     }
 
     /// What a page holds; none if it is erased or outside.
@@ -75,9 +72,7 @@ impl Flash {
     }
 
     pub fn copy(&mut self, source: u32, target: u32) -> Result<(), Fault> {
-        let contents = self
-            .contents(source)
-            .ok_or(Fault::CopyOfErased { page: source })?;
+        let contents = self.contents(source).ok_or(Fault::CopyOfErased { page: source })?;
         self.program(target, contents)
     }
 
@@ -124,8 +119,36 @@ impl Flash {
             return Ok(None);
         }
         let page = physical + k;
-        self.contents(page)
-            .map(Some)
-            .ok_or(Fault::ReadOfErased { page })
+        self.contents(page).map(Some).ok_or(Fault::ReadOfErased { page })
+    }
+}
+
+#[cfg(test)]
+mod tests {
+    use super::{Fault, Flash};
+    use crate::HOLE;
+
+    #[test]
+    fn a_page_is_programmed_once_between_erases_and_in_order() {
+        let mut flash = Flash::erased(3, 2);
+        assert_eq!(flash.program(1, 5), Err(Fault::OutOfOrder { page: 1 }));
+        assert_eq!(flash.program(0, 5), Ok(()));
+        assert_eq!(flash.program(0, 5), Err(Fault::ProgrammedTwice { page: 0 }));
+        assert_eq!(flash.program(1, 6), Ok(()));
+        assert_eq!(flash.program(6, 5), Err(Fault::Outside { page: 6 }));
+        flash.erase(0);
+        assert_eq!(flash.program(0, 7), Ok(()));
+        assert_eq!(flash.contents(1), None);
+    }
+
+    #[test]
+    fn answers_are_done_as_listed() {
+        let mut flash = Flash::erased(3, 2);
+        assert_eq!(flash.write(&[4, 0, 2, 6, 2, 1], |l| u64::from(l) * 10), Ok(()));
+        assert_eq!(flash.read(&[4, 0, 2, 6, 2, 1]), Ok(vec![Some(40), Some(50), Some(60)]));
+        assert_eq!(flash.reclaim(&[1], 2, 0), Ok(()));
+        assert_eq!(flash.read(&[4, HOLE, 1, 5, 4, 1]), Ok(vec![None, Some(50)]));
+        assert_eq!(flash.read(&[4, 0, 1]), Err(Fault::ReadOfErased { page: 0 }));
+        assert_eq!(flash.copy(3, 0), Err(Fault::CopyOfErased { page: 3 }));
     }
 }

@@ -20,19 +20,11 @@ fn lent_device(head: Head, words: &Words) -> Result<Device, Refusal> {
 }
 
 fn refused(refusal: Refusal, head: Head) -> Outcome {
-    Outcome {
-        refusal: refusal.number(),
-        count: 0,
-        head,
-    }
+    Outcome { refusal: refusal.number(), count: 0, head }
 }
 
 fn accepted(count: usize, head: Head) -> Outcome {
-    Outcome {
-        refusal: 0,
-        count: count as u32,
-        head,
-    }
+    Outcome { refusal: 0, count: count as u32, head }
 }
 
 /// Puts a table into words of its shape.
@@ -63,25 +55,9 @@ fn put_extents(extents: &[Extent], words: &mut [u32]) {
 }
 
 impl Layer for Plain {
-    fn fresh(
-        &self,
-        blocks: u32,
-        pages: u32,
-        logical: u32,
-        slots: u32,
-        words: &mut Words,
-    ) -> Outcome {
+    fn fresh(&self, blocks: u32, pages: u32, logical: u32, slots: u32, words: &mut Words) -> Outcome {
         if !sizes_fit(blocks, pages, logical, slots) || !lengths_fit(blocks, pages, slots, words) {
-            return refused(
-                Refusal::Shape,
-                Head {
-                    blocks,
-                    pages,
-                    logical,
-                    slots,
-                    ..Head::default()
-                },
-            );
+            return refused(Refusal::Shape, Head { blocks, pages, logical, slots, ..Head::default() });
         }
         accepted(0, put(&Device::fresh(blocks, pages, logical, slots), words))
     }
@@ -95,8 +71,7 @@ impl Layer for Plain {
         count: u32,
         answer: &mut [u32],
     ) -> Outcome {
-        let done =
-            lent_device(head, words).and_then(|d| d.write(number, start, count, answer.len()));
+        let done = lent_device(head, words).and_then(|d| d.write(number, start, count, answer.len()));
         match done {
             Err(refusal) => refused(refusal, head),
             Ok((device, pieces)) => {
@@ -113,14 +88,7 @@ impl Layer for Plain {
         }
     }
 
-    fn read(
-        &self,
-        head: Head,
-        words: &Words,
-        start: u32,
-        count: u32,
-        answer: &mut [u32],
-    ) -> Outcome {
+    fn read(&self, head: Head, words: &Words, start: u32, count: u32, answer: &mut [u32]) -> Outcome {
         match lent_device(head, words).and_then(|d| d.read(start, count, answer.len())) {
             Err(refusal) => refused(refusal, head),
             Ok(pieces) => {
@@ -142,20 +110,8 @@ impl Layer for Plain {
 
     fn report(&self, head: Head, words: &Words) -> Counts {
         match lent_device(head, words).map(|d| d.report()) {
-            Err(refusal) => Counts {
-                refusal: refusal.number(),
-                free: 0,
-                live: 0,
-                stale: 0,
-                head,
-            },
-            Ok(s) => Counts {
-                refusal: 0,
-                free: s.free,
-                live: s.live,
-                stale: s.stale,
-                head,
-            },
+            Err(refusal) => Counts { refusal: refusal.number(), free: 0, live: 0, stale: 0, head },
+            Ok(s) => Counts { refusal: 0, free: s.free, live: s.live, stale: s.stale, head },
         }
     }
 }

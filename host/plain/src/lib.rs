@@ -129,9 +129,7 @@ impl Refusal {
 
     /// The refusal of a number, or none: 0 is no refusal.
     pub fn of_number(number: u32) -> Option<Refusal> {
-        Refusal::ALL
-            .into_iter()
-            .find(|refusal| refusal.number() == number)
+        Refusal::ALL.into_iter().find(|refusal| refusal.number() == number)
     }
 }
 
@@ -163,14 +161,7 @@ pub struct Counts {
 /// `answer` is the answer buffer: triples for a write or a read, source pages
 /// for a reclaim. Only the words that the answer needs are overwritten.
 pub trait Layer {
-    fn fresh(
-        &self,
-        blocks: u32,
-        pages: u32,
-        logical: u32,
-        slots: u32,
-        words: &mut Words,
-    ) -> Outcome;
+    fn fresh(&self, blocks: u32, pages: u32, logical: u32, slots: u32, words: &mut Words) -> Outcome;
 
     fn write(
         &self,
@@ -184,14 +175,7 @@ pub trait Layer {
 
     fn trim(&self, head: Head, words: &mut Words, number: u64, start: u32, count: u32) -> Outcome;
 
-    fn read(
-        &self,
-        head: Head,
-        words: &Words,
-        start: u32,
-        count: u32,
-        answer: &mut [u32],
-    ) -> Outcome;
+    fn read(&self, head: Head, words: &Words, start: u32, count: u32, answer: &mut [u32]) -> Outcome;
 
     fn reclaim(&self, head: Head, words: &mut Words, answer: &mut [u32]) -> Outcome;
 

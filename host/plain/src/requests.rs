@@ -15,40 +15,15 @@ pub const MOST_ROOM: u32 = 3 * MOST_PAGES;
 /// A line of a request list.
 #[derive(Clone, Copy, Debug, PartialEq, Eq)]
 pub enum Request {
-    Fresh {
-        blocks: u32,
-        pages: u32,
-        logical: u32,
-        slots: u32,
-    },
-    Write {
-        number: u64,
-        start: u32,
-        count: u32,
-    },
-    Trim {
-        number: u64,
-        start: u32,
-        count: u32,
-    },
-    Read {
-        start: u32,
-        count: u32,
-    },
+    Fresh { blocks: u32, pages: u32, logical: u32, slots: u32 },
+    Write { number: u64, start: u32, count: u32 },
+    Trim { number: u64, start: u32, count: u32 },
+    Read { start: u32, count: u32 },
     Reclaim,
     Report,
-    Room {
-        words: u32,
-    },
-    Poke {
-        buffer: Buffer,
-        index: u32,
-        value: u32,
-    },
-    Head {
-        field: Field,
-        value: u64,
-    },
+    Room { words: u32 },
+    Poke { buffer: Buffer, index: u32, value: u32 },
+    Head { field: Field, value: u64 },
     State,
 }
 
@@ -108,33 +83,16 @@ impl fmt::Display for Wrong {
 impl fmt::Display for Request {
     fn fmt(&self, f: &mut fmt::Formatter<'_>) -> fmt::Result {
         match self {
-            Request::Fresh {
-                blocks,
-                pages,
-                logical,
-                slots,
-            } => {
+            Request::Fresh { blocks, pages, logical, slots } => {
                 write!(f, "fresh {blocks} {pages} {logical} {slots}")
             }
-            Request::Write {
-                number,
-                start,
-                count,
-            } => write!(f, "write {number} {start} {count}"),
-            Request::Trim {
-                number,
-                start,
-                count,
-            } => write!(f, "trim {number} {start} {count}"),
+            Request::Write { number, start, count } => write!(f, "write {number} {start} {count}"),
+            Request::Trim { number, start, count } => write!(f, "trim {number} {start} {count}"),
             Request::Read { start, count } => write!(f, "read {start} {count}"),
             Request::Reclaim => write!(f, "reclaim"),
             Request::Report => write!(f, "report"),
             Request::Room { words } => write!(f, "room {words}"),
-            Request::Poke {
-                buffer,
-                index,
-                value,
-            } => write!(f, "poke {} {index} {value}", buffer.name()),
+            Request::Poke { buffer, index, value } => write!(f, "poke {} {index} {value}", buffer.name()),
             Request::Head { field, value } => write!(f, "head {} {value}", field.name()),
             Request::State => write!(f, "state"),
         }
@@ -153,9 +111,7 @@ impl Buffer {
     }
 
     fn named(word: &[u8]) -> Result<Buffer, Wrong> {
-        let named = Buffer::ALL
-            .into_iter()
-            .find(|buffer| buffer.name().as_bytes() == word);
+        let named = Buffer::ALL.into_iter().find(|buffer| buffer.name().as_bytes() == word);
         named.ok_or(Wrong::NoBuffer)
     }
 
@@ -169,15 +125,8 @@ impl Buffer {
 }
 
 impl Field {
-    const ALL: [Field; 7] = [
-        Field::Blocks,
-        Field::Pages,
-        Field::Logical,
-        Field::Slots,
-        Field::Used,
-        Field::Reserve,
-        Field::Last,
-    ];
+    const ALL: [Field; 7] =
+        [Field::Blocks, Field::Pages, Field::Logical, Field::Slots, Field::Used, Field::Reserve, Field::Last];
 
     fn name(self) -> &'static str {
         match self {
@@ -192,9 +141,7 @@ impl Field {
     }
 
     fn named(word: &[u8]) -> Result<Field, Wrong> {
-        let named = Field::ALL
-            .into_iter()
-            .find(|field| field.name().as_bytes() == word);
+        let named = Field::ALL.into_iter().find(|field| field.name().as_bytes() == word);
         named.ok_or(Wrong::NoField)
     }
 
@@ -228,12 +175,8 @@ fn number_in(words: &[&[u8]], word: usize, most: u64) -> Result<u64, Wrong> {
     }
     let mut number = 0_u64;
     for digit in digits {
-        let next = number
-            .checked_mul(10)
-            .and_then(|n| n.checked_add(u64::from(digit - b'0')));
-        number = next
-            .filter(|&n| n <= most)
-            .ok_or(Wrong::TooLarge { word })?;
+        let next = number.checked_mul(10).and_then(|n| n.checked_add(u64::from(digit - b'0')));
+        number = next.filter(|&n| n <= most).ok_or(Wrong::TooLarge { word })?;
     }
     Ok(number)
 }
@@ -280,40 +223,19 @@ pub fn parse(line: &[u8]) -> Result<Request, Wrong> {
     let short = |word| short_number(&words, word);
     let long = |word| long_number(&words, word);
     Ok(match words[0] {
-        b"fresh" => Request::Fresh {
-            blocks: short(2)?,
-            pages: short(3)?,
-            logical: short(4)?,
-            slots: short(5)?,
-        },
-        b"write" => Request::Write {
-            number: long(2)?,
-            start: short(3)?,
-            count: short(4)?,
-        },
-        b"trim" => Request::Trim {
-            number: long(2)?,
-            start: short(3)?,
-            count: short(4)?,
-        },
-        b"read" => Request::Read {
-            start: short(2)?,
-            count: short(3)?,
-        },
+        b"fresh" => {
+            Request::Fresh { blocks: short(2)?, pages: short(3)?, logical: short(4)?, slots: short(5)? }
+        }
+        b"write" => Request::Write { number: long(2)?, start: short(3)?, count: short(4)? },
+        b"trim" => Request::Trim { number: long(2)?, start: short(3)?, count: short(4)? },
+        b"read" => Request::Read { start: short(2)?, count: short(3)? },
         b"reclaim" => Request::Reclaim,
         b"report" => Request::Report,
         b"room" => Request::Room { words: short(2)? },
-        b"poke" => Request::Poke {
-            buffer: Buffer::named(words[1])?,
-            index: short(3)?,
-            value: short(4)?,
-        },
+        b"poke" => Request::Poke { buffer: Buffer::named(words[1])?, index: short(3)?, value: short(4)? },
         b"head" => {
             let field = Field::named(words[1])?;
-            Request::Head {
-                field,
-                value: number_in(&words, 3, field.most())?,
-            }
+            Request::Head { field, value: number_in(&words, 3, field.most())? }
         }
         _ => Request::State,
     })
@@ -332,42 +254,20 @@ impl<L: Layer> Replay<L> {
     /// Before the first accepted fresh nothing is lent, so every call is
     /// refused 1.
     pub fn new(layer: L) -> Replay<L> {
-        Replay {
-            layer,
-            head: Head::default(),
-            words: Words::default(),
-            room: MOST_ROOM,
-        }
+        Replay { layer, head: Head::default(), words: Words::default(), room: MOST_ROOM }
     }
 
     /// The lines that answer a request: four for `state`, one for all others.
     pub fn answer(&mut self, request: Request) -> Result<Vec<String>, Wrong> {
         let line = match request {
-            Request::Fresh {
-                blocks,
-                pages,
-                logical,
-                slots,
-            } => self.fresh(blocks, pages, logical, slots)?,
-            Request::Write {
-                number,
-                start,
-                count,
-            } => self.write(number, start, count),
-            Request::Trim {
-                number,
-                start,
-                count,
-            } => self.trim(number, start, count),
+            Request::Fresh { blocks, pages, logical, slots } => self.fresh(blocks, pages, logical, slots)?,
+            Request::Write { number, start, count } => self.write(number, start, count),
+            Request::Trim { number, start, count } => self.trim(number, start, count),
             Request::Read { start, count } => self.read(start, count),
             Request::Reclaim => self.reclaim(),
             Request::Report => self.report(),
             Request::Room { words } => self.room(words),
-            Request::Poke {
-                buffer,
-                index,
-                value,
-            } => self.poke(buffer, index, value)?,
+            Request::Poke { buffer, index, value } => self.poke(buffer, index, value)?,
             Request::Head { field, value } => self.set(field, value),
             Request::State => return Ok(self.state()),
         };
@@ -383,13 +283,7 @@ impl<L: Layer> Replay<L> {
     /// buffers of the lengths they ask for. Only N = 0, which is refused whatever
     /// the lengths, leaves B without a bound: then no more blocks are lent than
     /// are held.
-    fn fresh(
-        &mut self,
-        blocks: u32,
-        pages: u32,
-        logical: u32,
-        slots: u32,
-    ) -> Result<String, Wrong> {
+    fn fresh(&mut self, blocks: u32, pages: u32, logical: u32, slots: u32) -> Result<String, Wrong> {
         if u64::from(blocks) * u64::from(pages) > u64::from(MOST_PAGES) || slots > MOST_SLOTS {
             return Err(Wrong::SizesBeyond);
         }
@@ -405,22 +299,13 @@ impl<L: Layer> Replay<L> {
 
     fn write(&mut self, number: u64, start: u32, count: u32) -> String {
         let mut buffer = self.buffer();
-        let outcome = self.layer.write(
-            self.head,
-            &mut self.words,
-            number,
-            start,
-            count,
-            &mut buffer,
-        );
+        let outcome = self.layer.write(self.head, &mut self.words, number, start, count, &mut buffer);
         self.head = outcome.head;
         pieces(outcome, &buffer)
     }
 
     fn trim(&mut self, number: u64, start: u32, count: u32) -> String {
-        let outcome = self
-            .layer
-            .trim(self.head, &mut self.words, number, start, count);
+        let outcome = self.layer.trim(self.head, &mut self.words, number, start, count);
         self.head = outcome.head;
         if outcome.refusal != 0 {
             return refused(outcome.refusal);
@@ -430,9 +315,7 @@ impl<L: Layer> Replay<L> {
 
     fn read(&mut self, start: u32, count: u32) -> String {
         let mut buffer = self.buffer();
-        let outcome = self
-            .layer
-            .read(self.head, &self.words, start, count, &mut buffer);
+        let outcome = self.layer.read(self.head, &self.words, start, count, &mut buffer);
         self.head = outcome.head;
         pieces(outcome, &buffer)
     }
@@ -445,11 +328,7 @@ impl<L: Layer> Replay<L> {
             return refused(outcome.refusal);
         }
         let sources = &buffer[..outcome.count as usize];
-        format!(
-            "{} erase {}",
-            ok(&[&[outcome.count], sources]),
-            outcome.head.reserve
-        )
+        format!("{} erase {}", ok(&[&[outcome.count], sources]), outcome.head.reserve)
     }
 
     fn report(&mut self) -> String {
@@ -472,24 +351,14 @@ impl<L: Layer> Replay<L> {
     }
 
     fn poke(&mut self, buffer: Buffer, index: u32, value: u32) -> Result<String, Wrong> {
-        let word = buffer
-            .of(&mut self.words)
-            .get_mut(index as usize)
-            .ok_or(Wrong::IndexOutside)?;
+        let word = buffer.of(&mut self.words).get_mut(index as usize).ok_or(Wrong::IndexOutside)?;
         *word = value;
         Ok(ok(&[]))
     }
 
     fn state(&self) -> Vec<String> {
         let head = self.head;
-        let sizes = [
-            head.blocks,
-            head.pages,
-            head.logical,
-            head.slots,
-            head.used,
-            head.reserve,
-        ];
+        let sizes = [head.blocks, head.pages, head.logical, head.slots, head.used, head.reserve];
         vec![
             format!("{} {}", line("head", &[&sizes]), head.last),
             line("extents", &[&self.words.extents]),
@@ -534,11 +403,7 @@ fn pieces(outcome: Outcome, buffer: &[u32]) -> String {
 pub fn run<L: Layer>(layer: L, list: &[u8]) -> Vec<String> {
     let mut replay = Replay::new(layer);
     let mut answers = Vec::new();
-    for (number, line) in (1..).zip(
-        list.strip_suffix(b"\n")
-            .unwrap_or(list)
-            .split(|&byte| byte == b'\n'),
-    ) {
+    for (number, line) in (1..).zip(list.strip_suffix(b"\n").unwrap_or(list).split(|&byte| byte == b'\n')) {
         answers.extend(answer_line(&mut replay, number, line));
     }
     answers

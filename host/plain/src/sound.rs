@@ -40,11 +40,7 @@ pub fn device_of(head: Head, words: &Words) -> Option<Device> {
 fn extents_in_use(head: Head, words: &Words) -> Vec<Extent> {
     words.extents[..3 * head.used as usize]
         .chunks_exact(3)
-        .map(|slot| Extent {
-            logical: slot[0],
-            physical: slot[1],
-            count: slot[2],
-        })
+        .map(|slot| Extent { logical: slot[0], physical: slot[1], count: slot[2] })
         .collect()
 }
 
@@ -65,12 +61,9 @@ fn end(start: u32, count: u32) -> u64 {
 /// logical order, 1 or more pages each, disjoint, ending at or below L, and
 /// unused slots all zero.
 fn rule_1(head: Head, extents: &[Extent], words: &Words) -> bool {
-    let each = extents
-        .iter()
-        .all(|e| e.count >= 1 && end(e.logical, e.count) <= u64::from(head.logical));
-    let rising_and_disjoint = extents
-        .windows(2)
-        .all(|pair| end(pair[0].logical, pair[0].count) <= u64::from(pair[1].logical));
+    let each = extents.iter().all(|e| e.count >= 1 && end(e.logical, e.count) <= u64::from(head.logical));
+    let rising_and_disjoint =
+        extents.windows(2).all(|pair| end(pair[0].logical, pair[0].count) <= u64::from(pair[1].logical));
     let unused = &words.extents[3 * extents.len()..];
     each && rising_and_disjoint && unused.iter().all(|&word| word == 0)
 }
@@ -79,13 +72,9 @@ fn rule_1(head: Head, extents: &[Extent], words: &Words) -> bool {
 /// joinable. Each extent has 1 or more pages.
 fn rule_2(head: Head, extents: &[Extent]) -> bool {
     let pages = u64::from(head.pages);
-    let inside = extents
-        .iter()
-        .all(|e| u64::from(e.physical) / pages == (end(e.physical, e.count) - 1) / pages);
-    inside
-        && !extents
-            .windows(2)
-            .any(|pair| joinable(head, pair[0], pair[1]))
+    let inside =
+        extents.iter().all(|e| u64::from(e.physical) / pages == (end(e.physical, e.count) - 1) / pages);
+    inside && !extents.windows(2).any(|pair| joinable(head, pair[0], pair[1]))
 }
 
 fn joinable(head: Head, first: Extent, next: Extent) -> bool {
@@ -105,11 +94,7 @@ fn rule_3(head: Head, words: &Words) -> bool {
         let (below, from) = labels.split_at(fill as usize);
         below.iter().all(|&label| label < head.logical) && from.iter().all(|&label| label == ERASED)
     };
-    words
-        .spare
-        .chunks_exact(head.pages as usize)
-        .enumerate()
-        .all(in_block)
+    words.spare.chunks_exact(head.pages as usize).enumerate().all(in_block)
 }
 
 /// 01, a sound state, rule 4: each mapped page lies below B x N and below its
@@ -119,8 +104,7 @@ fn rule_4(head: Head, extents: &[Extent], words: &Words) -> bool {
     let mapped = |e: &Extent| {
         (0..e.count).all(|k| {
             let page = e.physical + k;
-            page % head.pages < fill(words, page / head.pages)
-                && words.spare[page as usize] == e.logical + k
+            page % head.pages < fill(words, page / head.pages) && words.spare[page as usize] == e.logical + k
         })
     };
     extents.iter().all(|e| below(e) && mapped(e))
@@ -145,10 +129,7 @@ fn table_of(head: Head, extents: &[Extent], words: &Words) -> Device {
     let mut device = Device::fresh(head.blocks, head.pages, head.logical, head.slots);
     for e in extents {
         let lines = &mut device.table[e.logical as usize..(e.logical + e.count) as usize];
-        lines
-            .iter_mut()
-            .zip(e.physical..)
-            .for_each(|(line, page)| *line = page);
+        lines.iter_mut().zip(e.physical..).for_each(|(line, page)| *line = page);
     }
     device.fills = (0..head.blocks).map(|block| fill(words, block)).collect();
     device.spare.copy_from_slice(&words.spare);

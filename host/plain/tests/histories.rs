@@ -42,22 +42,14 @@ impl Host {
         words.extents.fill(UNTOUCHED);
         words.blocks.fill(UNTOUCHED);
         let outcome = Plain.fresh(blocks, pages, logical, slots, &mut words);
-        assert_eq!(
-            outcome.refusal, 0,
-            "fresh {blocks} {pages} {logical} {slots}"
-        );
+        assert_eq!(outcome.refusal, 0, "fresh {blocks} {pages} {logical} {slots}");
         Host {
             head: outcome.head,
             words,
             flash: Flash::erased(blocks, pages),
             contents: vec![None; logical as usize],
             unused_contents: 0,
-            history: vec![Request::Fresh {
-                blocks,
-                pages,
-                logical,
-                slots,
-            }],
+            history: vec![Request::Fresh { blocks, pages, logical, slots }],
             given: [0; 9],
         }
     }
@@ -87,41 +79,24 @@ impl Host {
         self.given[outcome.refusal as usize] += 1;
         self.head = outcome.head;
         let rest = &buffer[needed..];
-        self.check(
-            rest.iter().all(|&word| word == UNTOUCHED),
-            "words beyond the answer changed",
-        );
+        self.check(rest.iter().all(|&word| word == UNTOUCHED), "words beyond the answer changed");
         if outcome.refusal != 0 {
             self.check(outcome.count == 0, "a refusal has a count");
-            self.check(
-                (self.head, &self.words) == (before.0, &before.1),
-                "a refusal changed what is lent",
-            );
+            self.check((self.head, &self.words) == (before.0, &before.1), "a refusal changed what is lent");
         }
         buffer.truncate(needed);
-        Answer {
-            outcome,
-            words: buffer,
-        }
+        Answer { outcome, words: buffer }
     }
 
     /// The call itself, and how many words its answer takes.
     fn dispatch(&mut self, request: Request, buffer: &mut [u32]) -> (Outcome, usize) {
         let words = &mut self.words;
         match request {
-            Request::Write {
-                number,
-                start,
-                count,
-            } => {
+            Request::Write { number, start, count } => {
                 let outcome = Plain.write(self.head, words, number, start, count, buffer);
                 (outcome, 3 * outcome.count as usize)
             }
-            Request::Trim {
-                number,
-                start,
-                count,
-            } => (Plain.trim(self.head, words, number, start, count), 0),
+            Request::Trim { number, start, count } => (Plain.trim(self.head, words, number, start, count), 0),
             Request::Read { start, count } => {
                 let outcome = Plain.read(self.head, words, start, count, buffer);
                 (outcome, 3 * outcome.count as usize)
@@ -148,11 +123,7 @@ impl Host {
     fn write(&mut self, number: u64, start: u32, count: u32, room: u32) -> Outcome {
         let before = self.head;
         let free = self.report().free;
-        let request = Request::Write {
-            number,
-            start,
-            count,
-        };
+        let request = Request::Write { number, start, count };
         let answer = self.call(request, room);
         self.check_write_refusal(answer.outcome, before, free, request, room);
         if answer.outcome.refusal != 0 {
@@ -174,20 +145,8 @@ impl Host {
 
     /// Refusals 3, 4 and 5 exactly when the rules say; 6 never with a slot for
     /// every logical page, 7 never with as much room as any answer needs.
-    fn check_write_refusal(
-        &self,
-        outcome: Outcome,
-        before: Head,
-        free: u32,
-        request: Request,
-        room: u32,
-    ) {
-        let Request::Write {
-            number,
-            start,
-            count,
-        } = request
-        else {
+    fn check_write_refusal(&self, outcome: Outcome, before: Head, free: u32, request: Request, room: u32) {
+        let Request::Write { number, start, count } = request else {
             return;
         };
         let out_of_range = count == 0
@@ -198,10 +157,7 @@ impl Host {
             (number <= before.last, Refusal::Applied),
             (count > free, Refusal::NoPages),
         ];
-        let expected = first
-            .into_iter()
-            .find(|(applies, _)| *applies)
-            .map(|(_, refusal)| refusal.number());
+        let expected = first.into_iter().find(|(applies, _)| *applies).map(|(_, refusal)| refusal.number());
         match expected {
             Some(number) => self.check(outcome.refusal == number, "a write has another refusal"),
             None => {
@@ -213,11 +169,7 @@ impl Host {
     }
 
     fn trim(&mut self, number: u64, start: u32, count: u32) {
-        let request = Request::Trim {
-            number,
-            start,
-            count,
-        };
+        let request = Request::Trim { number, start, count };
         let answer = self.call(request, 0);
         if answer.outcome.refusal != 0 {
             return;
@@ -246,14 +198,8 @@ impl Host {
         let mut flash = self.flash.clone();
         self.check_flash(flash.reclaim(&answer.words, before.reserve, self.head.reserve));
         self.flash = flash;
-        self.check(
-            self.head.used <= before.used,
-            "a reclaim raised the count of extents",
-        );
-        self.check(
-            self.head.last == before.last,
-            "a reclaim changed the last number",
-        );
+        self.check(self.head.used <= before.used, "a reclaim raised the count of extents");
+        self.check(self.head.last == before.last, "a reclaim changed the last number");
         self.check_after_change();
         answer.outcome
     }
@@ -261,15 +207,9 @@ impl Host {
     fn check_after_change(&mut self) {
         let counts = self.report();
         let all = (self.head.blocks - 1) * self.head.pages;
-        self.check(
-            counts.free + counts.live + counts.stale == all,
-            "free + live + stale is not (B-1) x N",
-        );
+        self.check(counts.free + counts.live + counts.stale == all, "free + live + stale is not (B-1) x N");
         let live = self.contents.iter().filter(|entry| entry.is_some()).count();
-        self.check(
-            counts.live as usize == live,
-            "live is not the count of pages that hold something",
-        );
+        self.check(counts.live as usize == live, "live is not the count of pages that hold something");
         let mut buffer = vec![0; 3 * self.head.logical as usize];
         let read = Plain.read(self.head, &self.words, 0, self.head.logical, &mut buffer);
         self.check(read.refusal == 0, "a read of all pages is refused");
@@ -280,10 +220,7 @@ impl Host {
     fn check_sent_again(&mut self, request: Request, room: u32) {
         let again = self.call(request, room);
         let applied = Refusal::Applied.number();
-        self.check(
-            again.outcome.refusal == applied,
-            "a request sent again is not refused 4",
-        );
+        self.check(again.outcome.refusal == applied, "a request sent again is not refused 4");
     }
 
     /// Demand 3: the write is accepted after at most B-1 reclaims.
@@ -320,22 +257,10 @@ fn number(random: &mut Random, last: u64) -> u64 {
 /// A range, mostly inside the logical pages, at times at a limit or beyond it.
 fn range(random: &mut Random, logical: u32, most: u32) -> (u32, u32) {
     if random.once_in(12) {
-        let limits = [
-            0,
-            1,
-            logical - 1,
-            logical,
-            logical + 1,
-            u32::MAX - 1,
-            u32::MAX,
-        ];
+        let limits = [0, 1, logical - 1, logical, logical + 1, u32::MAX - 1, u32::MAX];
         return (random.pick(&limits), random.pick(&limits));
     }
-    let count = if random.once_in(3) {
-        1
-    } else {
-        random.between(1, most.min(logical))
-    };
+    let count = if random.once_in(3) { 1 } else { random.between(1, most.min(logical)) };
     (random.between(0, logical - count), count)
 }
 
@@ -352,12 +277,7 @@ fn step(host: &mut Host, random: &mut Random, reclaims: u32) {
     match random.between(0, 19) {
         0..=9 => {
             let (start, count) = range(random, head.logical, head.pages);
-            host.write(
-                number(random, head.last),
-                start,
-                count,
-                room(random, most_room),
-            );
+            host.write(number(random, head.last), start, count, room(random, most_room));
         }
         10..=12 => {
             let (start, count) = range(random, head.logical, head.logical);
@@ -374,8 +294,7 @@ fn step(host: &mut Host, random: &mut Random, reclaims: u32) {
         }
         _ => {
             let count = random.between(1, head.pages.min(head.logical));
-            host.clone()
-                .check_demand_3(random.between(0, head.logical - count), count);
+            host.clone().check_demand_3(random.between(0, head.logical - count), count);
         }
     }
 }
@@ -400,24 +319,13 @@ fn small_devices() {
         let blocks = random.between(3, 8);
         let pages = random.between(1, 8);
         let most = (blocks - 2) * pages;
-        let logical = if random.once_in(2) {
-            most
-        } else {
-            random.between(1, most)
-        };
+        let logical = if random.once_in(2) { most } else { random.between(1, most) };
         let slots = random.between(1, logical + 2);
-        add(
-            &mut given,
-            history(&mut random, (blocks, pages, logical, slots), 300),
-        );
+        add(&mut given, history(&mut random, (blocks, pages, logical, slots), 300));
     }
     let never = [1, 2];
     for (refusal, &times) in given.iter().enumerate() {
-        assert_eq!(
-            times == 0,
-            never.contains(&refusal),
-            "refusal {refusal} was given {times} times"
-        );
+        assert_eq!(times == 0, never.contains(&refusal), "refusal {refusal} was given {times} times");
     }
 }
 
@@ -455,9 +363,7 @@ fn largest_device() {
         }
         host.head = write.head;
         let contents = |l: u32| number << 32 | u64::from(l);
-        host.flash
-            .write(&answer[..3 * write.count as usize], contents)
-            .expect("the flash takes it");
+        host.flash.write(&answer[..3 * write.count as usize], contents).expect("the flash takes it");
         (start..start + 200).for_each(|l| host.contents[l as usize] = Some(contents(l)));
     }
     host.unused_contents = 1 << 60;

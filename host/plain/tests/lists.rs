@@ -24,24 +24,12 @@ fn every_list_answers_as_expected() {
     assert!(lists.len() >= 33, "only {} lists", lists.len());
     for path in lists {
         let list = fs::read(&path).expect("a list");
-        let expected =
-            fs::read_to_string(path.with_extension("expected")).expect("its expected output");
+        let expected = fs::read_to_string(path.with_extension("expected")).expect("its expected output");
         let answers = run(Plain, &list);
         for (k, (answer, expected)) in answers.iter().zip(expected.lines()).enumerate() {
-            assert_eq!(
-                answer,
-                expected,
-                "{}: line {} of the output",
-                path.display(),
-                k + 1
-            );
+            assert_eq!(answer, expected, "{}: line {} of the output", path.display(), k + 1);
         }
-        assert_eq!(
-            answers.len(),
-            expected.lines().count(),
-            "{}: lines of output",
-            path.display()
-        );
+        assert_eq!(answers.len(), expected.lines().count(), "{}: lines of output", path.display());
     }
 }
 
@@ -50,10 +38,7 @@ fn every_list_answers_as_expected() {
 fn requests_print_as_they_are_read() {
     for path in lists() {
         let list = fs::read(&path).expect("a list");
-        for request in list
-            .split(|&byte| byte == b'\n')
-            .filter_map(|line| parse(line).ok())
-        {
+        for request in list.split(|&byte| byte == b'\n').filter_map(|line| parse(line).ok()) {
             assert_eq!(parse(request.to_string().as_bytes()), Ok(request));
         }
     }

@@ -16,12 +16,7 @@ fn with_input(list: &[u8]) -> Output {
         .stderr(Stdio::piped())
         .spawn()
         .expect("the program starts");
-    child
-        .stdin
-        .take()
-        .expect("its input")
-        .write_all(list)
-        .expect("the list is taken");
+    child.stdin.take().expect("its input").write_all(list).expect("the list is taken");
     child.wait_with_output().expect("the program ends")
 }
 
@@ -37,10 +32,7 @@ fn text(bytes: &[u8]) -> String {
 fn a_list_on_standard_input() {
     let output = with_input(b"fresh 4 16 32 16\nwrite 1 0 2\nwrite 1 0 2\nreport");
     assert!(output.status.success());
-    assert_eq!(
-        text(&output.stdout),
-        "ok\nok 1 0 0 2\nrefused 4 Applied\nok 46 2 0\n"
-    );
+    assert_eq!(text(&output.stdout), "ok\nok 1 0 0 2\nrefused 4 Applied\nok 46 2 0\n");
 }
 
 #[test]
@@ -48,8 +40,7 @@ fn a_list_in_a_file() {
     let folder = Path::new(env!("CARGO_MANIFEST_DIR")).join("../../tests/requests");
     let output = with_file(&folder.join("p12.txt"));
     assert!(output.status.success());
-    let expected =
-        std::fs::read_to_string(folder.join("p12.expected")).expect("its expected output");
+    let expected = std::fs::read_to_string(folder.join("p12.expected")).expect("its expected output");
     assert_eq!(text(&output.stdout), expected);
 }
 
@@ -73,15 +64,8 @@ fn garbage_gets_error_lines_and_the_list_goes_on() {
 #[test]
 fn no_file_or_a_folder_or_two_files_end_with_a_message() {
     let here = Path::new(env!("CARGO_MANIFEST_DIR"));
-    let two = program()
-        .args(["a", "b"])
-        .output()
-        .expect("the program runs");
-    for output in [
-        with_file(&here.join("no-such-list.txt")),
-        with_file(here),
-        two,
-    ] {
+    let two = program().args(["a", "b"]).output().expect("the program runs");
+    for output in [with_file(&here.join("no-such-list.txt")), with_file(here), two] {
         assert_eq!(output.status.code(), Some(2));
         assert!(output.stdout.is_empty());
         assert!(text(&output.stderr).starts_with("replay-plain: "));
