@@ -1,0 +1,45 @@
+//! The request lists of tests/requests, whose expected output is written by hand
+//! from the papers, answered by the plain layer.
+
+use std::fs;
+use std::path::{Path, PathBuf};
+
+use plain::requests::{parse, run};
+use plain::Plain;
+
+fn lists() -> Vec<PathBuf> {
+    let folder = Path::new(env!("CARGO_MANIFEST_DIR")).join("../../tests/requests");
+    let entries = fs::read_dir(folder).expect("the folder of request lists");
+    let mut lists: Vec<PathBuf> = entries
+        .map(|entry| entry.expect("an entry of the folder").path())
+        .filter(|path| path.extension().is_some_and(|extension| extension == "txt"))
+        .collect();
+    lists.sort();
+    lists
+}
+
+#[test]
+fn every_list_answers_as_expected() {
+    let lists = lists();
+    assert!(lists.len() >= 33, "only {} lists", lists.len());
+    for path in lists {
+        let list = fs::read(&path).expect("a list");
+        let expected = fs::read_to_string(path.with_extension("expected")).expect("its expected output");
+        let answers = run(Plain, &list);
+        for (k, (answer, expected)) in answers.iter().zip(expected.lines()).enumerate() {
+            assert_eq!(answer, expected, "{}: line {} of the output", path.display(), k + 1);
+        }
+        assert_eq!(answers.len(), expected.lines().count(), "{}: lines of output", path.display());
+    }
+}
+
+/// A request prints as a line that asks for the same.
+#[test]
+fn requests_print_as_they_are_read() {
+    for path in lists() {
+        let list = fs::read(&path).expect("a list");
+        for request in list.split(|&byte| byte == b'\n').filter_map(|line| parse(line).ok()) {
+            assert_eq!(parse(request.to_string().as_bytes()), Ok(request));
+        }
+    }
+}
