@@ -15,6 +15,9 @@ pub record Lent : Type 0 where
   pub blocks : List ℕ
   pub spare : List ℕ
 
+abbrev pub lent : Head → List ℕ → List ℕ → List ℕ → Lent
+lent h extents blocks spare = record { head = h; extents = extents; blocks = blocks; spare = spare }
+
 -- extent slot i
 abbrev pub slotOf : Lent → ℕ → Extent
 slotOf s i = slot (s .extents) i

@@ -1,0 +1,4 @@
+pub mod Scan
+pub mod Store
+pub mod Shift
+pub mod Parts

@@ -1,0 +1,147 @@
+// Leaves on lent words: the words of a block record, scans of a part, and stores into a part. What a block record holds, and how far
+// apart two records stand, is known here and in specs/Blocks.antt of `rules`, and nowhere else in the code.
+ghost use mathlib.Core.Path.{_≡_};
+ghost use Prim.Native.Nat.{_+_, _-_, _*_, _<_, _≤_, _^_};
+ghost use mathlib.Core.List.{_∷_, _++_};
+ghost use lib.ListN.{length, getD, set, take, drop, replicate};
+ghost use lib.Dec.{eqb, ltb};
+ghost use Rattle.rules.specs.Counting.{all, tabulate};
+ghost use Rattle.rules.specs.Blocks.{stride, fillWord, validWord};
+
+pub const STRIDE: usize = 2;
+
+// ---- block records
+
+pub fn fill_of(blk: &[u32], b: usize) -> u32
+    requires { ⌜ stride * b + 1 < length (now blk) ⌝ }
+    ensures { λ r. ⌜ r ≡ fillWord (now (blk .entry)) b ⌝ }
+{
+    let at = STRIDE * b;
+    blk[at]
+}
+
+pub fn valid_of(blk: &[u32], b: usize) -> u32
+    requires { ⌜ stride * b + 1 < length (now blk) ⌝ }
+    ensures { λ r. ⌜ r ≡ validWord (now (blk .entry)) b ⌝ }
+{
+    let at = STRIDE * b;
+    blk[at + 1]
+}
+
+pub fn put_fill(blk: &mut [u32], b: usize, x: u32)
+    requires { ⌜ stride * b + 1 < length (now blk) ⌝ }
+    ensures { λ _. ⌜ now (blk .exit) ≡ set (now (blk .entry)) (stride * b) x ⌝ }
+{
+    let at = STRIDE * b;
+    blk[at] = x;
+}
+
+pub fn put_valid(blk: &mut [u32], b: usize, x: u32)
+    requires { ⌜ stride * b + 1 < length (now blk) ⌝ }
+    ensures { λ _. ⌜ now (blk .exit) ≡ set (now (blk .entry)) (stride * b + 1) x ⌝ }
+{
+    let at = STRIDE * b;
+    blk[at + 1] = x;
+}
+
+// ---- scans without an exit, so that they vectorise
+
+// Every word is x.
+pub fn all_are(ws: &[u32], x: u32) -> bool
+    ensures { λ r. ⌜ r ≡ all (length (now (ws .entry))) (λ k. eqb (getD (now (ws .entry)) k 0) x) ⌝ }
+{
+    let mut ok = true;
+    let mut k: usize = 0;
+    while k < ws.len() {
+        if ws[k] != x {
+            ok = false;
+        }
+        k += 1;
+    }
+    ok
+}
+
+// Every word is below top.
+pub fn all_below(ws: &[u32], top: u32) -> bool
+    ensures { λ r. ⌜ r ≡ all (length (now (ws .entry))) (λ k. ltb (getD (now (ws .entry)) k 0) top) ⌝ }
+{
+    let mut ok = true;
+    let mut k: usize = 0;
+    while k < ws.len() {
+        if ws[k] >= top {
+            ok = false;
+        }
+        k += 1;
+    }
+    ok
+}
+
+// The words are x, x + 1, ..
+pub fn all_rise(ws: &[u32], x: u32) -> bool
+    requires { ⌜ x + length (now ws) ≤ 2 ^ 32 ⌝ }
+    ensures { λ r. ⌜ r ≡ all (length (now (ws .entry))) (λ k. eqb (getD (now (ws .entry)) k 0) (x + k)) ⌝ }
+{
+    let mut ok = true;
+    let mut k: usize = 0;
+    while k < ws.len() {
+        if ws[k] != x + (k as u32) {
+            ok = false;
+        }
+        k += 1;
+    }
+    ok
+}
+
+// ---- stores
+
+// Every word becomes x.
+pub fn fill_with(ws: &mut [u32], x: u32)
+    ensures { λ _. ⌜ now (ws .exit) ≡ replicate (length (now (ws .entry))) x ⌝ }
+{
+    let mut k: usize = 0;
+    while k < ws.len() {
+        ws[k] = x;
+        k += 1;
+    }
+}
+
+// The words become x, x + 1, ..
+pub fn fill_rise(ws: &mut [u32], x: u32)
+    requires { ⌜ x + length (now ws) ≤ 2 ^ 32 ⌝ }
+    ensures { λ _. ⌜ now (ws .exit) ≡ tabulate (length (now (ws .entry))) (λ k. x + k) ⌝ }
+{
+    let mut k: usize = 0;
+    while k < ws.len() {
+        ws[k] = x + (k as u32);
+        k += 1;
+    }
+}
+
+// Every word three places up, the last three dropped, and the new three in front.
+pub fn shift_up(tail: &mut [u32], l: u32, p: u32, c: u32)
+    requires { ⌜ 3 ≤ length (now tail) ⌝ }
+    ensures { λ _. ⌜ now (tail .exit) ≡ l ∷ p ∷ c ∷ take (length (now (tail .entry)) - 3) (now (tail .entry)) ⌝ }
+{
+    let mut i = tail.len();
+    while 3 < i {
+        i -= 1;
+        tail[i] = tail[i - 3];
+    }
+    tail[0] = l;
+    tail[1] = p;
+    tail[2] = c;
+}
+
+// The first `by` words dropped, the others moved down in their place, and zeros behind them.
+pub fn shift_down(tail: &mut [u32], by: usize)
+    requires { ⌜ by ≤ length (now tail) ⌝ }
+    ensures { λ _. ⌜ now (tail .exit) ≡ drop by (now (tail .entry)) ++ replicate by 0 ⌝ }
+{
+    let len = tail.len();
+    let mut i = by;
+    while i < len {
+        tail[i - by] = tail[i];
+        i += 1;
+    }
+    fill_with(&mut tail[len - by..], 0);
+}
