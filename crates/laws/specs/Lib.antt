@@ -27,4 +27,5 @@ pub mod Flash
 pub mod History
 pub mod Sane
 pub mod Host
+pub mod Shapes
 pub mod Until
