@@ -28,4 +28,5 @@ pub mod History
 pub mod Sane
 pub mod Host
 pub mod Shapes
+pub mod Sanes
 pub mod Until
