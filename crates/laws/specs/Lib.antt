@@ -29,4 +29,5 @@ pub mod Sane
 pub mod Host
 pub mod Shapes
 pub mod Sanes
+pub mod Tallies
 pub mod Until
