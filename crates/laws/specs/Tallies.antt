@@ -16,7 +16,7 @@ use Rattle.laws.specs.Sums.{sum-same, sum-add, sum-zero, count-sum, coun
 use Rattle.laws.specs.Rows.{Row, Rows, lookup-before, lookup-in, lookup-after, lookup-low, div-shift}
 use Rattle.laws.specs.Slots.{slots-more}
 use Rattle.laws.specs.Sane.{pagesIn}
-use Rattle.laws.specs.Sanes.{rows-slot}
+use Rattle.laws.specs.Ranked.{rows-slot}
 
 -- ---- an extent and a range
 
