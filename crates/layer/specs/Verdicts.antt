@@ -1,0 +1,61 @@
+-- How a call's answer follows from its verdict: the first refusal that applies, in the paper's order.
+use Prim.Native.Nat.{ℕ, _≤_, _<_}
+use mathlib.Core.Bool.{Bool, true, false, not}
+use mathlib.Core.Path.{_≡_, refl, sym, ap, _∙_}
+use mathlib.Core.List.{List}
+use native.Mathlib.Omega.{arith}
+use borrow.Author.Tests.{eq-eqb, ne-eqb}
+use lib.Dec.{eqb}
+use lib.ListN.{length}
+use Rattle.rules.specs.Lent.{Lent}
+use Rattle.rules.specs.Shape.{shaped}
+use Rattle.rules.specs.Sound.{sound}
+use Rattle.rules.specs.Device.{Device, deviceOf}
+use Rattle.rules.specs.Answers.{Outcome, number, refuse}
+use Rattle.rules.specs.Calls.{Call, refusal, refused, verdict, acceptedOn, call}
+use Rattle.rules.specs.declared.Refusal.{Refusal}
+
+-- ---- one test of a row
+
+pub refuse-here : (t : Bool) (r : Refusal) (later : ℕ) → t ≡ true → refuse t r later ≡ number r
+unfolding refuse
+refuse-here t r later e = rw e
+
+pub refuse-later : (t : Bool) (r : Refusal) (later : ℕ) → t ≡ false → refuse t r later ≡ later
+unfolding refuse
+refuse-later t r later e = rw e
+
+-- ---- 1 and 2
+
+module _ (c : Call) (s : Lent) where
+  pub verdict-shape : shaped s ≡ false → verdict c s ≡ number Refusal.Shape
+  unfolding verdict
+  verdict-shape e = refuse-here _ Refusal.Shape _ (ap not e)
+
+  pub verdict-damaged : shaped s ≡ true → sound s ≡ false → verdict c s ≡ number Refusal.Damaged
+  unfolding verdict
+  verdict-damaged e f = refuse-later _ Refusal.Shape _ (ap not e) ∙ refuse-here _ Refusal.Damaged _ (ap not f)
+
+  pub verdict-plain : shaped s ≡ true → sound s ≡ true → verdict c s ≡ refusal c (deviceOf s)
+  unfolding verdict
+  verdict-plain e f = refuse-later _ Refusal.Shape _ (ap not e) ∙ refuse-later _ Refusal.Damaged _ (ap not f)
+
+  -- ---- the answer
+
+  pub number-some : (r : Refusal) → number r ≡ 0 → ⊥
+  number-some Refusal.Shape e = omega arith
+  number-some Refusal.Damaged e = omega arith
+  number-some Refusal.Range e = omega arith
+  number-some Refusal.Applied e = omega arith
+  number-some Refusal.NoPages e = omega arith
+  number-some Refusal.NoNodes e = omega arith
+  number-some Refusal.OutShort e = omega arith
+  number-some Refusal.NothingStale e = omega arith
+
+  pub call-refused : (r : Refusal) → verdict c s ≡ number r → refused (number r) c s ≡ call c s
+  unfolding call
+  call-refused r e = rw (e, ne-eqb (number r) 0 (number-some r))
+
+  pub call-accepted : verdict c s ≡ 0 → acceptedOn c s ≡ call c s
+  unfolding call
+  call-accepted e = rw e
