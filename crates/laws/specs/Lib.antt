@@ -33,4 +33,5 @@ pub mod Sanes
 pub mod Tallies
 pub mod Records
 pub mod States
+pub mod Calls
 pub mod Until
