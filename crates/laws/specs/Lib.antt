@@ -32,4 +32,6 @@ pub mod Ranked
 pub mod Sanes
 pub mod Tallies
 pub mod Records
+pub mod States
+pub mod Calls
 pub mod Until
