@@ -13,7 +13,7 @@ use Rattle.rules.specs.Calls.{freshDevice}
 use Rattle.rules.specs.declared.Head.{Head}
 use Rattle.rules.specs.declared.Extent.{Extent}
 use Rattle.laws.specs.Sane.{Sizes}
-use Rattle.laws.specs.Shapes.{some-pages, pages-words}
+use Rattle.laws.specs.Shapes.{some-pages, pages-fit}
 use Rattle.laws.specs.Runs.{runs-hole}
 use Rattle.laws.specs.Fresh.{fresh-valid, fresh-blocks, fresh-lines}
 
@@ -53,7 +53,7 @@ module _ (b n l m : ℕ) (z : Sizes b n l m) where
 
   blocks-are : records (freshDevice b n l m .fills) 0 (valid (freshDevice b n l m)) ≡ replicate (stride * b) 0
   unfolding freshDevice
-  blocks-are = records-zero b 0 _ (λ c p q. fresh-valid b n l m (some-pages z) (omega (arith, z .b-low)) (pages-words z) c (omega arith))
+  blocks-are = records-zero b 0 _ (λ c p q. fresh-valid b n l m (some-pages z) (omega (arith, z .b-low)) (pages-fit z) c (omega arith))
 
   extents-are : flat (extents (freshDevice b n l m)) ++ replicate (3 * (m - length (extents (freshDevice b n l m)))) 0 ≡ replicate (3 * m) 0
   unfolding flat
