@@ -29,3 +29,4 @@ pub mod Sane
 pub mod Host
 pub mod Until
 pub mod Encoded
+pub mod Kept
