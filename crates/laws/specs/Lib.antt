@@ -30,3 +30,4 @@ pub mod Host
 pub mod Until
 pub mod Encoded
 pub mod Kept
+pub mod Growth
