@@ -27,6 +27,8 @@ pub mod Flash
 pub mod History
 pub mod Sane
 pub mod Host
+pub mod Shapes
+pub mod Sanes
 pub mod Until
 pub mod Encoded
 pub mod Kept
