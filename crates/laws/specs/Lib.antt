@@ -33,3 +33,4 @@ pub mod Until
 pub mod Encoded
 pub mod Kept
 pub mod Growth
+pub mod Listed
