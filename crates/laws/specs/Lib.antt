@@ -24,7 +24,6 @@ pub mod Valid
 pub mod Settle
 pub mod Fresh
 pub mod Flash
-pub mod History
 pub mod Sane
 pub mod Host
 pub mod Shapes
@@ -34,3 +33,5 @@ pub mod Encoded
 pub mod Kept
 pub mod Growth
 pub mod Listed
+pub mod Agrees
+pub mod Reads
