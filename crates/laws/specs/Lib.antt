@@ -35,3 +35,4 @@ pub mod Growth
 pub mod Listed
 pub mod Agrees
 pub mod Reads
+pub mod Worlds
