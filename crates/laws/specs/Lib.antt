@@ -27,7 +27,11 @@ pub mod Flash
 pub mod Sane
 pub mod Host
 pub mod Shapes
+pub mod Ranked
 pub mod Sanes
+pub mod Tallies
+pub mod Records
+pub mod States
 pub mod Until
 pub mod Encoded
 pub mod Kept
