@@ -32,6 +32,7 @@ pub mod Sanes
 pub mod Tallies
 pub mod Records
 pub mod States
+pub mod Calls
 pub mod Until
 pub mod Encoded
 pub mod Kept
