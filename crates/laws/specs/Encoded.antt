@@ -19,15 +19,10 @@ use Rattle.laws.specs.Cut.{cut}
 use Rattle.laws.specs.Trim.{trim-cut}
 use Rattle.laws.specs.Write.{place, write-place}
 use Rattle.laws.specs.Norm.{norm, norm-length, move, move-runs, movesTo, movesTo-steadies}
-use Rattle.laws.specs.Device.{Sound, page-lt, offset-lt, none-block}
+use Rattle.laws.specs.Device.{Sound, none-block}
 use Rattle.laws.specs.Placed.{Opens, puts-table, puts-pages, length-places, places-small}
+use Rattle.laws.specs.States.{table-lines}
 use Rattle.laws.specs.Reclaimed.{goes-other, within, victim-chosen}
-
-pub table-small : (d : Device) → Sound d → Words (d .table)
-table-small d s l =
-    by-cases (ℕ-discrete (at d l) none)
-    (λ e. omega arith)
-    (λ m. let h = s .home l m in omega (arith, h .is, page-lt d s (h .block) (h .offset) (h .inside) (offset-lt d s l m)))
 
 -- a write: the pieces of the answer, put in between what lies below the range and what lies above it
 pub write-extents : (l : ℕ) (bs : List ℕ) (d : Device) → Sound d → Opens l bs d → l + length bs ≤ lines d
@@ -35,23 +30,23 @@ pub write-extents : (l : ℕ) (bs : List ℕ) (d : Device) → Sound d → Opens
 unfolding extents
 write-extents l bs d s v h =
     let e = length-places l bs d in
-    let r = write-place (d .pages) (s .some) l (placesAt l bs d) (d .table) (omega arith) (places-small l bs d s v h) (table-small d s) in
+    let r = write-place (d .pages) (s .some) l (placesAt l bs d) (d .table) (omega arith) (places-small l bs d s v h) (table-lines d s) in
     rw (puts-pages l bs d, puts-table l bs d) (rw e at r)
 
 pub trim-extents : (k l n : ℕ) (d : Device) → Sound d → 0 < n → l + n ≤ lines d → cut l (l + n) (extents d) ≡ extents (trimmed k l n d)
 unfolding extents trimmed withTable
-trim-extents k l n d s z h = trim-cut (d .pages) (s .some) l n (d .table) z h (table-small d s)
+trim-extents k l n d s z h = trim-cut (d .pages) (s .some) l n (d .table) z h (table-lines d s)
 
 -- a reclaim: each extent moved whole, then joined
 pub reclaim-extents : (d : Device) → Sound d → (v : ℕ) → v < blocks d → (v ≡ d .reserve → ⊥)
     → norm (d .pages) (map (move (goes v (d .reserve) d)) (extents d)) ≡ extents (reclaimedAt v d)
 unfolding extents reclaimedAt goes movesTo
 reclaim-extents d s v a e =
-    move-runs (d .pages) (s .some) (goes v (d .reserve) d) (goes-other v (d .reserve) d none (none-block d s v a)) (d .table) (table-small d s)
+    move-runs (d .pages) (s .some) (goes v (d .reserve) d) (goes-other v (d .reserve) d none (none-block d s v a)) (d .table) (table-lines d s)
     (movesTo-steadies (d .pages) (s .some) (named d v) v (d .reserve) (lines d) (runs (d .pages) 0 (d .table)) 0 none
     (omega (arith, suc-mul (d .reserve) (d .pages), block-le (d .pages) (d .reserve) (blocks d) (s .kept), s .words))
-    (runs-rows (d .pages) (s .some) (d .table) 0 (lines d) (table-small d s) (omega arith))
-    (λ l m q. let g = runs-lookup (d .pages) (s .some) (d .table) 0 l l (table-small d s) (omega arith) in
+    (runs-rows (d .pages) (s .some) (d .table) 0 (lines d) (table-lines d s) (omega arith))
+    (λ l m q. let g = runs-lookup (d .pages) (s .some) (d .table) 0 l l (table-lines d s) (omega arith) in
     let w = within d s v a e l (sym (ap (λ (x : ℕ). x / d .pages) g) ∙ q) in
     ap (named d v) (ap (λ (x : ℕ). x % d .pages) (g ∙ w .is) ∙ digits-mod v (omega (arith, w .below, s .full v a))) ∙ w .live))
 

@@ -16,7 +16,8 @@ use Rattle.laws.specs.Counts.{startsBefore, endsAfter, leftJoin, trim-co
 use Rattle.laws.specs.Device.{Sound, same-block, same-offset, page-lt, offset-lt}
 use Rattle.laws.specs.Placed.{Open, Opens, put-pages, put-fill, put-fill-other, put-one, puts-table, puts-pages, length-places, places-lt, places-small, length-targets, targets-open, puts-all}
 use Rattle.laws.specs.Lines.{trimmed-lines}
-use Rattle.laws.specs.Encoded.{table-small, write-extents, trim-extents, runs-length, extents-lines}
+use Rattle.laws.specs.States.{table-lines}
+use Rattle.laws.specs.Encoded.{write-extents, trim-extents, runs-length, extents-lines}
 
 -- ---- new pages lie from their block's fill on
 
@@ -94,7 +95,7 @@ puts-grow l b bs d s v h =
     let new : (i : ℕ) → i < length (b ∷ bs) → New d (getD (first ∷ rest) i none) = places-new l (b ∷ bs) d s v h in
     let some : (i : ℕ) → i < length (b ∷ bs) → getD (first ∷ rest) i none < none = places-lt l (b ∷ bs) d s v h in
     let counted =
-    write-count (d .pages) (s .some) l first rest (d .table) (omega arith) (places-small l (b ∷ bs) d s v h) (table-small d s)
+    write-count (d .pages) (s .some) l first rest (d .table) (omega arith) (places-small l (b ∷ bs) d s v h) (table-lines d s)
     (λ e. omega (arith, some 0 (omega arith)))
     (λ e. omega (arith, some (length rest) (omega arith)))
     (λ e. absurd (new-page d s first (new 0 (omega arith)) l e))
@@ -142,7 +143,7 @@ write-grows l (suc n) d s z f h =
 module _ (k l n : ℕ) (d : Device) (s : Sound d) (z : 0 < n) (h : l + n ≤ lines d) where
   pub trim-grows : length (extents (trimmed k l n d)) ≡ startsBefore l (extents d) + endsAfter (l + n) (extents d)
   unfolding extents trimmed withTable
-  trim-grows = trim-count (d .pages) (s .some) l n (d .table) z h (table-small d s)
+  trim-grows = trim-count (d .pages) (s .some) l n (d .table) z h (table-lines d s)
 
   -- at most one more
   pub trim-bound : length (extents (trimmed k l n d)) ≤ length (extents d) + 1

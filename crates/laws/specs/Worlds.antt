@@ -27,16 +27,14 @@ use Rattle.laws.specs.Placed.{length-targets, targets-open, length-place
 use Rattle.laws.specs.Reclaimed.{length-sources, few-sources, victim-chosen}
 use Rattle.laws.specs.Flash.{Cell, erased, Seen, hole, see, contents, vacate, vacate-ready}
 use Rattle.laws.specs.Sane.{Good}
+use Rattle.laws.specs.Calls.{encoded, call-plain}
 use Rattle.laws.specs.Host.{Ask, Op, programs, copies, listed, ops, does, doing, marks, marking, AllAllowed, shown, reads, World, step, run, Programs}
 use Rattle.laws.specs.Reads.{read-passes, read-lists}
 use Rattle.laws.specs.Kept.{Taken, taken, keeps}
 use Rattle.laws.specs.Listed.{doing-append, marking-append, allowed-append, writes, programs-runs, writes-does, writes-marks, writes-allowed, copies-does, copies-marks, copies-allowed}
 use Rattle.laws.specs.Agrees.{Agrees, padded, cells, agrees-write, agrees-trim, agrees-reclaim}
 
--- ---- the outcomes of an accepted call, in words
-
-unfoldable pub encoded : Outcome Device → Outcome Lent
-encoded o = record { refusal = o .refusal; counts = o .counts; after = wordsOf (o .after); out = o .out }
+-- ---- the outcome of an accepted call, and of a refused one
 
 pub plain-accepted : (c : Call) (d : Device) → refusal c d ≡ 0 → plain c d ≡ accepted c d
 unfolding plain
@@ -162,96 +160,95 @@ pub record Holds (m : ℕ) (w : World) : Type 0 where
   pub lines : lines device ≡ m
   pub agrees : Agrees device flash table
 
-module _ (call-plain : (c : Call) (d : Device) → Good d → call c (wordsOf d) ≡ encoded (plain c d)) where
-  module _ (c : Call) (d : Device) (g : Good d) where
-    pub call-taken : refusal c d ≡ 0 → call c (wordsOf d) ≡ encoded (accepted c d)
-    call-taken e = call-plain c d g ∙ ap encoded (plain-accepted c d e)
+module _ (c : Call) (d : Device) (g : Good d) where
+  pub call-taken : refusal c d ≡ 0 → call c (wordsOf d) ≡ encoded (accepted c d)
+  call-taken e = call-plain c d g ∙ ap encoded (plain-accepted c d e)
 
-    pub call-refused : (refusal c d ≡ 0 → ⊥) → call c (wordsOf d) ≡ encoded (refused (refusal c d) c d)
-    call-refused e = call-plain c d g ∙ ap encoded (plain-refused c d e)
+  pub call-refused : (refusal c d ≡ 0 → ⊥) → call c (wordsOf d) ≡ encoded (refused (refusal c d) c d)
+  call-refused e = call-plain c d g ∙ ap encoded (plain-refused c d e)
 
-  -- what line l reads as is what the device and its flash show
-  pub reads-contents : (d : Device) (f : List Cell) → Good d → (l : ℕ) → l < lines d → reads (wordsOf d) f l ≡ contents d f l
-  unfolding reads contents encoded accepted over
-  reads-contents d f g l h =
-      let c = Call.read l 1 (replicate 3 0) in
-      ap (λ (o : Outcome Lent). see f (getD (o .out) 1 none)) (call-taken c d g (read-passes l (replicate 3 0) d h (omega arith)))
-      ∙ ap (λ (ws : List ℕ). see f (getD (ws ++ drop (length ws) (replicate 3 0)) 1 none)) (read-lists l d h (replicate 3 0))
+-- what line l reads as is what the device and its flash show
+pub reads-contents : (d : Device) (f : List Cell) → Good d → (l : ℕ) → l < lines d → reads (wordsOf d) f l ≡ contents d f l
+unfolding reads contents encoded accepted over
+reads-contents d f g l h =
+    let c = Call.read l 1 (replicate 3 0) in
+    ap (λ (o : Outcome Lent). see f (getD (o .out) 1 none)) (call-taken c d g (read-passes l (replicate 3 0) d h (omega arith)))
+    ∙ ap (λ (ws : List ℕ). see f (getD (ws ++ drop (length ws) (replicate 3 0)) 1 none)) (read-lists l d h (replicate 3 0))
 
-  module _ (a : Ask) (d : Device) (f : List Cell) (t : List Seen) (g : Good d) where
-    step-taken : Agrees d f t → refusal (a .request) d ≡ 0
-        → step a (world d f t) ≡ world (leaves (a .request) d) (doing (d .pages) (tasks (a .request) (a .contents) d) f) (shown (a .request) (a .contents) t)
-    unfolding step ops opsBy stepBy tasks encoded accepted wordsOf headOf
-    step-taken r e =
-        let v = served (a .request) (a .contents) d f t g r (taken (a .request) d e) in
-        ap (stepBy a (world d f t)) (call-taken (a .request) d g e)
-        ∙ ap (λ (m : List ℕ). record {
-          state = wordsOf (leaves (a .request) d);
-          flash = doing (d .pages) (tasks (a .request) (a .contents) d) f;
-          programmed = m;
-          table = shown (a .request) (a .contents) t;
-        }) (v .marks)
+module _ (a : Ask) (d : Device) (f : List Cell) (t : List Seen) (g : Good d) where
+  step-taken : Agrees d f t → refusal (a .request) d ≡ 0
+      → step a (world d f t) ≡ world (leaves (a .request) d) (doing (d .pages) (tasks (a .request) (a .contents) d) f) (shown (a .request) (a .contents) t)
+  unfolding step ops opsBy stepBy tasks encoded accepted wordsOf headOf
+  step-taken r e =
+      let v = served (a .request) (a .contents) d f t g r (taken (a .request) d e) in
+      ap (stepBy a (world d f t)) (call-taken (a .request) d g e)
+      ∙ ap (λ (m : List ℕ). record {
+        state = wordsOf (leaves (a .request) d);
+        flash = doing (d .pages) (tasks (a .request) (a .contents) d) f;
+        programmed = m;
+        table = shown (a .request) (a .contents) t;
+      }) (v .marks)
 
-    step-refused : (refusal (a .request) d ≡ 0 → ⊥) → step a (world d f t) ≡ world d f t
-    unfolding step ops opsBy stepBy encoded refused doing marking
-    step-refused e =
-        ap (stepBy a (world d f t)) (call-refused (a .request) d g e)
-        ∙ simp (ne-eqb (refusal (a .request) d) 0 e)
+  step-refused : (refusal (a .request) d ≡ 0 → ⊥) → step a (world d f t) ≡ world d f t
+  unfolding step ops opsBy stepBy encoded refused doing marking
+  step-refused e =
+      ap (stepBy a (world d f t)) (call-refused (a .request) d g e)
+      ∙ simp (ne-eqb (refusal (a .request) d) 0 e)
 
-    step-with : Agrees d f t → Holds (lines d) (step a (world d f t))
-    step-with r =
-        let c = a .request in
-        by-cases (ℕ-discrete (refusal c d) 0)
-        (λ e. let v = served c (a .contents) d f t g r (taken c d e) in
-        record {
-          device = leaves c d;
-          flash = doing (d .pages) (tasks c (a .contents) d) f;
-          table = shown c (a .contents) t;
-          is = step-taken r e;
-          good = keeps c d g e;
-          lines = sym (v .agrees .size) ∙ shown-length c (a .contents) t ∙ r .size;
-          agrees = v .agrees;
-        })
-        (λ e. record { device = d; flash = f; table = t; is = step-refused e; good = g; lines = refl; agrees = r })
+  step-with : Agrees d f t → Holds (lines d) (step a (world d f t))
+  step-with r =
+      let c = a .request in
+      by-cases (ℕ-discrete (refusal c d) 0)
+      (λ e. let v = served c (a .contents) d f t g r (taken c d e) in
+      record {
+        device = leaves c d;
+        flash = doing (d .pages) (tasks c (a .contents) d) f;
+        table = shown c (a .contents) t;
+        is = step-taken r e;
+        good = keeps c d g e;
+        lines = sym (v .agrees .size) ∙ shown-length c (a .contents) t ∙ r .size;
+        agrees = v .agrees;
+      })
+      (λ e. record { device = d; flash = f; table = t; is = step-refused e; good = g; lines = refl; agrees = r })
 
-    ops-taken : refusal (a .request) d ≡ 0 → ops a (wordsOf d) ≡ tasks (a .request) (a .contents) d
-    unfolding ops opsBy tasks encoded accepted wordsOf headOf
-    ops-taken e = ap (opsBy a (headOf d)) (call-taken (a .request) d g e)
+  ops-taken : refusal (a .request) d ≡ 0 → ops a (wordsOf d) ≡ tasks (a .request) (a .contents) d
+  unfolding ops opsBy tasks encoded accepted wordsOf headOf
+  ops-taken e = ap (opsBy a (headOf d)) (call-taken (a .request) d g e)
 
-    ops-refused : (refusal (a .request) d ≡ 0 → ⊥) → ops a (wordsOf d) ≡ []
-    unfolding ops opsBy encoded refused wordsOf headOf
-    ops-refused e = ap (opsBy a (headOf d)) (call-refused (a .request) d g e) ∙ simp (ne-eqb (refusal (a .request) d) 0 e)
+  ops-refused : (refusal (a .request) d ≡ 0 → ⊥) → ops a (wordsOf d) ≡ []
+  unfolding ops opsBy encoded refused wordsOf headOf
+  ops-refused e = ap (opsBy a (headOf d)) (call-refused (a .request) d g e) ∙ simp (ne-eqb (refusal (a .request) d) 0 e)
 
-    ops-allowed : Agrees d f t → AllAllowed (d .pages) (ops a (wordsOf d)) f (d .fills)
-    ops-allowed r =
-        let c = a .request in
-        by-cases (ℕ-discrete (refusal c d) 0)
-        (λ e. subst (λ (os : List Op). AllAllowed (d .pages) os f (d .fills)) (sym (ops-taken e)) (served c (a .contents) d f t g r (taken c d e) .allowed))
-        (λ e. subst (λ (os : List Op). AllAllowed (d .pages) os f (d .fills)) (sym (ops-refused e)) tt)
+  ops-allowed : Agrees d f t → AllAllowed (d .pages) (ops a (wordsOf d)) f (d .fills)
+  ops-allowed r =
+      let c = a .request in
+      by-cases (ℕ-discrete (refusal c d) 0)
+      (λ e. subst (λ (os : List Op). AllAllowed (d .pages) os f (d .fills)) (sym (ops-taken e)) (served c (a .contents) d f t g r (taken c d e) .allowed))
+      (λ e. subst (λ (os : List Op). AllAllowed (d .pages) os f (d .fills)) (sym (ops-refused e)) tt)
 
-  -- ---- histories
+-- ---- histories
 
-  pub step-holds : (m : ℕ) (a : Ask) (w : World) → Holds m w → Holds m (step a w)
-  step-holds m a w h =
-      subst (λ (v : World). Holds m (step a v)) (sym (h .is))
-      (subst (λ (x : ℕ). Holds x (step a (world (h .device) (h .flash) (h .table)))) (h .lines) (step-with a (h .device) (h .flash) (h .table) (h .good) (h .agrees)))
+pub step-holds : (m : ℕ) (a : Ask) (w : World) → Holds m w → Holds m (step a w)
+step-holds m a w h =
+    subst (λ (v : World). Holds m (step a v)) (sym (h .is))
+    (subst (λ (x : ℕ). Holds x (step a (world (h .device) (h .flash) (h .table)))) (h .lines) (step-with a (h .device) (h .flash) (h .table) (h .good) (h .agrees)))
 
-  pub step-allowed : (m : ℕ) (a : Ask) (w : World) → Holds m w → AllAllowed (w .state .head .pages) (ops a (w .state)) (w .flash) (w .programmed)
-  unfolding wordsOf headOf
-  step-allowed m a w h =
-      subst (λ (v : World). AllAllowed (v .state .head .pages) (ops a (v .state)) (v .flash) (v .programmed)) (sym (h .is))
-      (ops-allowed a (h .device) (h .flash) (h .table) (h .good) (h .agrees))
+pub step-allowed : (m : ℕ) (a : Ask) (w : World) → Holds m w → AllAllowed (w .state .head .pages) (ops a (w .state)) (w .flash) (w .programmed)
+unfolding wordsOf headOf
+step-allowed m a w h =
+    subst (λ (v : World). AllAllowed (v .state .head .pages) (ops a (v .state)) (v .flash) (v .programmed)) (sym (h .is))
+    (ops-allowed a (h .device) (h .flash) (h .table) (h .good) (h .agrees))
 
-  pub run-holds : (m : ℕ) (asks : List Ask) (w : World) → Holds m w → Holds m (run asks w)
-  unfolding run
-  run-holds m [] w h = h
-  run-holds m (a ∷ asks) w h = run-holds m asks (step a w) (step-holds m a w h)
+pub run-holds : (m : ℕ) (asks : List Ask) (w : World) → Holds m w → Holds m (run asks w)
+unfolding run
+run-holds m [] w h = h
+run-holds m (a ∷ asks) w h = run-holds m asks (step a w) (step-holds m a w h)
 
-  pub run-programs : (m : ℕ) (asks : List Ask) (w : World) → Holds m w → Programs asks w
-  run-programs m [] w h = tt
-  run-programs m (a ∷ asks) w h = (step-allowed m a w h, run-programs m asks (step a w) (step-holds m a w h))
+pub run-programs : (m : ℕ) (asks : List Ask) (w : World) → Holds m w → Programs asks w
+run-programs m [] w h = tt
+run-programs m (a ∷ asks) w h = (step-allowed m a w h, run-programs m asks (step a w) (step-holds m a w h))
 
-  pub holds-reads : (m : ℕ) (w : World) → Holds m w → (l : ℕ) → l < m → reads (w .state) (w .flash) l ≡ getD (w .table) l hole
-  holds-reads m w h l k =
-      subst (λ (v : World). reads (v .state) (v .flash) l ≡ getD (v .table) l hole) (sym (h .is))
-      (reads-contents (h .device) (h .flash) (h .good) l (omega (arith, h .lines)) ∙ h .agrees .says l)
+pub holds-reads : (m : ℕ) (w : World) → Holds m w → (l : ℕ) → l < m → reads (w .state) (w .flash) l ≡ getD (w .table) l hole
+holds-reads m w h l k =
+    subst (λ (v : World). reads (v .state) (v .flash) l ≡ getD (v .table) l hole) (sym (h .is))
+    (reads-contents (h .device) (h .flash) (h .good) l (omega (arith, h .lines)) ∙ h .agrees .says l)
