@@ -41,3 +41,4 @@ pub mod Listed
 pub mod Agrees
 pub mod Reads
 pub mod Worlds
+pub mod Starts
