@@ -42,3 +42,4 @@ pub mod Agrees
 pub mod Reads
 pub mod Worlds
 pub mod Starts
+pub mod Demand2

@@ -1,6 +1,6 @@
 -- Where histories start: any sound state on a flash that is erased from each fill on, and the fresh device on erased flash.
 use Prim.Native.Nat.{ℕ, zero, suc, _+_, _-_, _*_, _≤_, _<_}
-use mathlib.Core.Bool.{true}
+use mathlib.Core.Bool.{true, _&&_}
 use mathlib.Core.Path.{_≡_, refl, sym, ap, _∙_}
 use mathlib.Core.List.{List, []}
 use mathlib.Core.Logic.{by-cases}
@@ -10,10 +10,11 @@ use lib.ListN.{length, getD, replicate, length-replicate, List·getD-eq-default}
 use Rattle.rules.specs.Counting.{tabulate}
 use Rattle.rules.specs.Extents.{none, runs}
 use Rattle.rules.specs.Lent.{Lent, fillOf}
-use Rattle.rules.specs.Shape.{sizes, shaped}
+use Rattle.rules.specs.Shape.{sizes, lengths, shaped}
 use Rattle.rules.specs.Sound.{sound}
 use Rattle.rules.specs.Device.{Device, blocks, lines, at, extents, deviceOf, wordsOf}
-use Rattle.rules.specs.Calls.{freshDevice}
+use Rattle.rules.specs.Calls.{freshDevice, fresh}
+use Rattle.laws.specs.Bools.{cases, and-split}
 use Rattle.laws.specs.Cells.{length-tabulate, getD-tabulate, replicate-at}
 use Rattle.laws.specs.Runs.{runs-hole}
 use Rattle.laws.specs.Fresh.{fresh-blocks, fresh-lines, fresh-at, fresh-sound}
@@ -117,3 +118,14 @@ module _ (b n l m : ℕ) (z : sizes b n l m ≡ true) where
     lines = fresh-lines b n l m;
     agrees = fresh-agrees;
   }
+
+-- an accepted fresh leaves that state, whatever was lent
+pub fresh-leaves : (b n l m : ℕ) (es bs ss : List ℕ) → fresh b n l m es bs ss .refusal ≡ 0
+    → (sizes b n l m ≡ true) × (fresh b n l m es bs ss .after ≡ freshWorld b n l m .state)
+unfolding fresh freshWorld
+fresh-leaves b n l m es bs ss e =
+    let size = sizes b n l m in
+    let fit = lengths b n m (length es) (length bs) (length ss) in
+    cases (size && fit)
+    (λ t. (and-split size fit t .0, rw t))
+    (λ t. let g : _≡_ {A = ℕ} 1 0 = rw t at e in absurd (omega arith))

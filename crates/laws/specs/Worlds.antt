@@ -167,13 +167,20 @@ module _ (c : Call) (d : Device) (g : Good d) where
   pub call-refused : (refusal c d ≡ 0 → ⊥) → call c (wordsOf d) ≡ encoded (refused (refusal c d) c d)
   call-refused e = call-plain c d g ∙ ap encoded (plain-refused c d e)
 
+-- a read of line l alone is accepted, and answers one piece: the line, its page or a hole, and 1
+pub read-one : (d : Device) → Good d → (l : ℕ) → l < lines d → let o = call (Call.read l 1 (replicate 3 0)) (wordsOf d) in (o .refusal ≡ 0) × (o .out ≡ l ∷ at d l ∷ 1 ∷ [])
+unfolding encoded accepted over
+read-one d g l h =
+    let c = Call.read l 1 (replicate 3 0) in
+    let e = call-taken c d g (read-passes l (replicate 3 0) d h (omega arith)) in (
+      ap (λ (o : Outcome Lent). o .refusal) e,
+      ap (λ (o : Outcome Lent). o .out) e ∙ ap (λ (ws : List ℕ). ws ++ drop (length ws) (replicate 3 0)) (read-lists l d h (replicate 3 0)),
+    )
+
 -- what line l reads as is what the device and its flash show
 pub reads-contents : (d : Device) (f : List Cell) → Good d → (l : ℕ) → l < lines d → reads (wordsOf d) f l ≡ contents d f l
-unfolding reads contents encoded accepted over
-reads-contents d f g l h =
-    let c = Call.read l 1 (replicate 3 0) in
-    ap (λ (o : Outcome Lent). see f (getD (o .out) 1 none)) (call-taken c d g (read-passes l (replicate 3 0) d h (omega arith)))
-    ∙ ap (λ (ws : List ℕ). see f (getD (ws ++ drop (length ws) (replicate 3 0)) 1 none)) (read-lists l d h (replicate 3 0))
+unfolding reads contents
+reads-contents d f g l h = ap (λ (ws : List ℕ). see f (getD ws 1 none)) (read-one d g l h .1)
 
 module _ (a : Ask) (d : Device) (f : List Cell) (t : List Seen) (g : Good d) where
   step-taken : Agrees d f t → refusal (a .request) d ≡ 0
