@@ -43,3 +43,4 @@ pub mod Reads
 pub mod Worlds
 pub mod Starts
 pub mod Demand2
+pub mod Demand3
