@@ -1,12 +1,12 @@
 -- A device, its flash and what every line is to show: they agree, and go on agreeing when a call is accepted and the host does what it asks for.
-use Prim.Native.Nat.{ℕ, _+_, _*_, _≤_, _<_}
+use Prim.Native.Nat.{ℕ, _+_, _≤_, _<_}
 use mathlib.Core.Path.{_≡_, refl, sym, ap, _∙_}
 use mathlib.Core.List.{List}
 use native.Mathlib.Omega.{arith}
 use lib.ListN.{length, getD, replicate, length-replicate}
 use lib.Seq.{sets, length-sets}
 use Rattle.rules.specs.Counting.{tabulate}
-use Rattle.rules.specs.Device.{Device, blocks, lines, stale, free}
+use Rattle.rules.specs.Device.{Device, lines, stale, free}
 use Rattle.rules.specs.Placement.{targets, puts, places}
 use Rattle.rules.specs.Number.{withTable, numbered, written, trimmed}
 use Rattle.rules.specs.Reclaim.{victim, reclaimed}

@@ -16,10 +16,10 @@ use Rattle.rules.specs.Calls.{Call, refusal, refused, accepted, plain, call, fr
 use Rattle.laws.specs.Flash.{Cell, hole}
 use Rattle.laws.specs.Sane.{Good}
 use Rattle.laws.specs.Calls.{encoded, call-plain}
-use Rattle.laws.specs.Kept.{keeps}
+use Rattle.laws.specs.Kept.{keeps, device-good, device-is}
 use Rattle.laws.specs.Host.{Ask, reads, run, ErasedFromFill, begin, Programs}
 use Rattle.laws.specs.Worlds.{plain-accepted, plain-refused, run-holds, run-programs, holds-reads}
-use Rattle.laws.specs.Starts.{device-good, device-is, begin-holds, freshWorld, fresh-good, fresh-holds}
+use Rattle.laws.specs.Starts.{begin-holds, freshWorld, fresh-good, fresh-holds}
 
 -- ---- the answers: any calls other than fresh, accepted and refused mixed, with any numbers, ranges and answer buffers, each given the
 -- state that the last one left

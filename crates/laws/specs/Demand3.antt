@@ -3,7 +3,7 @@
 use Prim.Native.Nat.{ℕ, zero, suc, _+_, _-_, _*_, _≤_, _<_}
 use mathlib.Core.Bool.{Bool, true, false, cond}
 use mathlib.Core.Path.{_≡_, refl, sym, ap, _∙_, subst}
-use mathlib.Core.List.{List, [], _∷_}
+use mathlib.Core.List.{List}
 use mathlib.Core.Logic.{by-cases, _⊎_, ⊎-elim}
 use native.Mathlib.Omega.{arith}
 use native.Mathlib.Decide.{ℕ-discrete}
@@ -19,7 +19,6 @@ use Rattle.rules.specs.Reclaim.{reclaimed}
 use Rattle.rules.specs.Answers.{Outcome}
 use Rattle.rules.specs.Calls.{Call, refusal, counts, leaves, accepted, call}
 use Rattle.rules.specs.declared.Head.{Head}
-use Rattle.laws.specs.Device.{Sound}
 use Rattle.laws.specs.Placed.{puts-slots, length-placed}
 use Rattle.laws.specs.Reclaimed.{staleBlocks, reclaim-all}
 use Rattle.laws.specs.Settle.{settle, settle-done, settle-more, Settled, settle-ends, stale-blocks-lt, never-stuck}
@@ -28,12 +27,12 @@ use Rattle.laws.specs.Sane.{Good}
 use Rattle.laws.specs.States.{good-shaped, good-sound}
 use Rattle.laws.specs.Calls.{encoded}
 use Rattle.laws.specs.Encoded.{runs-length, reclaim-shrinks}
-use Rattle.laws.specs.Kept.{WriteTaken, passes, keeps, reclaim-passes}
+use Rattle.laws.specs.Kept.{WriteTaken, passes, keeps, reclaim-passes, device-good, device-is}
 use Rattle.laws.specs.Growth.{write-bound, write-lines}
-use Rattle.laws.specs.Host.{Ask, shown, reads, World, step, ErasedFromFill, begin}
+use Rattle.laws.specs.Host.{shown, World, step, ErasedFromFill, begin}
 use Rattle.laws.specs.Until.{staleOf, reclaiming, until, times, Gains, Spares, Way}
 use Rattle.laws.specs.Worlds.{Holds, call-taken, step-holds, holds-reads}
-use Rattle.laws.specs.Starts.{device-good, device-is, begin-holds}
+use Rattle.laws.specs.Starts.{begin-holds}
 
 -- ---- the statement
 

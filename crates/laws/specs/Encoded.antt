@@ -14,7 +14,7 @@ use Rattle.rules.specs.Placement.{putsAt, placesAt}
 use Rattle.rules.specs.Number.{withTable, trimmed}
 use Rattle.rules.specs.Reclaim.{victim, goes, reclaimedAt, reclaimed}
 use Rattle.laws.specs.Cells.{block-le}
-use Rattle.laws.specs.Runs.{join-length, runs-hole, runs-page, runs-rows, runs-lookup, Words}
+use Rattle.laws.specs.Runs.{join-length, runs-hole, runs-page, runs-rows, runs-lookup}
 use Rattle.laws.specs.Cut.{cut}
 use Rattle.laws.specs.Trim.{trim-cut}
 use Rattle.laws.specs.Write.{place, write-place}

@@ -1,14 +1,18 @@
 -- What it says that a call is accepted, that an accepted call leaves a good device, and that a refused one leaves everything.
-use Prim.Native.Nat.{ℕ, _+_, _*_, _≤_, _<_}
-use mathlib.Core.Bool.{Bool, true, false, cond, _||_}
-use mathlib.Core.Path.{_≡_, refl, sym, _∙_}
+use Prim.Native.Nat.{ℕ, _+_, _-_, _*_, _≤_, _<_}
+use mathlib.Core.Bool.{Bool, true, false, not, cond, _||_}
+use mathlib.Core.Path.{_≡_, refl, sym, ap, _∙_}
 use mathlib.Core.List.{List}
+use mathlib.Core.Logic.{by-cases}
 use native.Mathlib.Omega.{arith}
-use borrow.Author.Tests.{eqb-false, ltb-false, leb-false, ne-eqb, le-ltb, lt-leb}
+use native.Mathlib.Decide.{ℕ-discrete}
+use borrow.Author.Tests.{eqb-false, ltb-false, leb-false, not-false, eq-eqb, ne-eqb, le-ltb, lt-leb}
 use lib.Dec.{eqb, ltb, leb}
 use lib.ListN.{length}
 use Rattle.rules.specs.Lent.{Lent}
-use Rattle.rules.specs.Device.{Device, blocks, lines, free, stale, extents}
+use Rattle.rules.specs.Shape.{shaped}
+use Rattle.rules.specs.Sound.{sound}
+use Rattle.rules.specs.Device.{Device, blocks, lines, free, live, stale, extents, deviceOf, wordsOf}
 use Rattle.rules.specs.Placement.{targets, puts, pieces}
 use Rattle.rules.specs.Number.{applied, judged, withTable, numbered, written, trimmed}
 use Rattle.rules.specs.Reclaim.{victim, sources, reclaimed}
@@ -16,12 +20,14 @@ use Rattle.rules.specs.Read.{found}
 use Rattle.rules.specs.Answers.{Outcome, refuse}
 use Rattle.rules.specs.Calls.{Call, outside, tooMany, writeRefusal, trimRefusal, readRefusal, reclaimRefusal, refusal, leaves, buffer, zeros, refused, verdict, acceptedOn, call}
 use Rattle.rules.specs.declared.Refusal.{Refusal}
-use Rattle.laws.specs.Bools.{cases, or-split}
+use Rattle.laws.specs.Bools.{or-split}
 use Rattle.laws.specs.Device.{Sound}
 use Rattle.laws.specs.Placed.{puts-pages, puts-slots, puts-all}
 use Rattle.laws.specs.Lines.{written-sound, trimmed-lines, trimmed-sound}
 use Rattle.laws.specs.Reclaimed.{few-sources, victim-chosen, reclaim-all}
 use Rattle.laws.specs.Encoded.{reclaim-shrinks}
+use Rattle.laws.specs.Balance.{balance′}
+use Rattle.laws.specs.States.{device-blocks, good-shaped, good-sound, sound-iff}
 use Rattle.laws.specs.Sane.{Sizes, Good}
 
 -- ---- the refusals, one after the other
@@ -210,8 +216,52 @@ reclaim-passes out d g h r =
       room = omega (arith, few-sources d (g .sound) (victim d) (c .inside) (c .other));
     }
 
--- ---- a refused call leaves every word and the head
+-- ---- on lent words
 
+-- a sound state's words are those of its device
+module _ (s : Lent) (z : shaped s ≡ true) (e : sound s ≡ true) where
+  pub device-good : Good (deviceOf s)
+  device-good = sound-iff s z .0 e .0
+
+  pub device-is : wordsOf (deviceOf s) ≡ s
+  device-is = sound-iff s z .0 e .1
+
+  -- 01, a sound state: free + live + stale = (B - 1) x N
+  pub three-counts : free (deviceOf s) + live (deviceOf s) + stale (deviceOf s) ≡ (s .head .blocks - 1) * s .head .pages
+  unfolding deviceOf
+  three-counts = balance′ (deviceOf s) (device-good .sound) ∙ ap (λ (b : ℕ). (b - 1) * s .head .pages) (device-blocks s)
+
+call-verdict : (c : Call) (s : Lent) → call c s .refusal ≡ verdict c s
+unfolding call acceptedOn refused
+call-verdict c s =
+    by-cases (ℕ-discrete (verdict c s) 0)
+    (λ e. rw (eq-eqb (verdict c s) 0 e) (sym e))
+    (λ e. rw (ne-eqb (verdict c s) 0 e))
+
+-- a call is accepted only in a sound state, where the plain device accepts it
+pub record AcceptedIn (c : Call) (s : Lent) : Type 0 where
+  pub shape : shaped s ≡ true
+  pub whole : sound s ≡ true
+  pub plainly : refusal c (deviceOf s) ≡ 0
+  pub after : call c s .after ≡ wordsOf (leaves c (deviceOf s))
+
+pub accepted-in : (c : Call) (s : Lent) → call c s .refusal ≡ 0 → AcceptedIn c s
+unfolding call acceptedOn verdict
+accepted-in c s e =
+    let v : verdict c s ≡ 0 = sym (call-verdict c s) ∙ e in
+    let a = refuse-none (not (shaped s)) Refusal.Shape _ v in
+    let b = refuse-none (not (sound s)) Refusal.Damaged _ (a .1) in
+    record { shape = not-false (shaped s) (a .0); whole = not-false (sound s) (b .0); plainly = b .1; after = rw (eq-eqb (verdict c s) 0 v) }
+
+-- and leaves a sound state
+pub accepted-sound : (c : Call) (s : Lent) → call c s .refusal ≡ 0 → (shaped (call c s .after) ≡ true) × (sound (call c s .after) ≡ true)
+accepted-sound c s e =
+    let a = accepted-in c s e in
+    let d = leaves c (deviceOf s) in
+    let g : Good d = keeps c (deviceOf s) (device-good s (a .shape) (a .whole)) (a .plainly) in
+    (ap shaped (a .after) ∙ good-shaped d g, ap sound (a .after) ∙ good-sound d g)
+
+-- a refused call leaves every word and the head
 pub record Untouched (c : Call) (s : Lent) (o : Outcome Lent) : Type 0 where
   pub after : o .after ≡ s
   pub out : o .out ≡ buffer c

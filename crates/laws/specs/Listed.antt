@@ -1,16 +1,15 @@
 -- What the host does by an answer, page by page: the pages of a write's pieces are its places in order, and a reclaim's copies fill the
 -- old reserve from its first page on. Each step is allowed when it comes.
-use Prim.Native.Nat.{ℕ, zero, suc, _+_, _-_, _*_, _/_, _%_, _≤_, _<_}
+use Prim.Native.Nat.{ℕ, suc, _+_, _-_, _*_, _/_, _%_, _≤_, _<_}
 use mathlib.Core.Path.{_≡_, refl, sym, ap, ap₂, _∙_}
 use mathlib.Core.List.{List, [], _∷_, _++_, append-assoc}
-use mathlib.Core.Logic.{by-cases}
 use native.Mathlib.Omega.{arith}
 use lib.Arith.{digits-div, digits-mod}
-use lib.ListN.{length, getD, set, replicate, length-set}
-use lib.Seq.{sets, getD-set-same, set-set, set-getD}
+use lib.ListN.{length, getD, set, length-set}
+use lib.Seq.{getD-set-same, set-set, set-getD}
 use Rattle.rules.specs.Counting.{tabulate}
 use Rattle.rules.specs.Extents.{none, extent, join, joinable, runs}
-use Rattle.rules.specs.Device.{Device, blocks, lines, at, fill}
+use Rattle.rules.specs.Device.{Device, lines, fill}
 use Rattle.rules.specs.Placement.{putAt, putsAt, placesAt}
 use Rattle.rules.specs.declared.Extent.{Extent}
 use Rattle.laws.specs.Bools.{cases}
@@ -19,7 +18,7 @@ use Rattle.laws.specs.Runs.{joinable-true, join-joined, join-apart, runs
 use Rattle.laws.specs.Device.{Sound}
 use Rattle.laws.specs.Placed.{Opens, put-one}
 use Rattle.laws.specs.Flash.{Cell, erased, value, Clean, put-ready, put-inside, put-clean, program}
-use Rattle.laws.specs.Host.{Op, programs, copies, does, doing, marks, marking, May, AllAllowed}
+use Rattle.laws.specs.Host.{Op, programs, copies, does, doing, marks, marking, AllAllowed}
 
 -- ---- one thing after another
 

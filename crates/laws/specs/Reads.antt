@@ -1,17 +1,17 @@
 -- A read of one page: it is accepted, and its answer is one piece that names the line's page or a hole.
-use Prim.Native.Nat.{ℕ, suc, _+_, _-_, _*_, _≤_, _<_}
-use mathlib.Core.Path.{_≡_, refl, sym, ap, _∙_}
+use Prim.Native.Nat.{ℕ, _+_, _-_, _≤_, _<_}
+use mathlib.Core.Path.{_≡_, sym, ap, _∙_}
 use mathlib.Core.List.{List, [], _∷_}
 use mathlib.Core.Logic.{by-cases}
 use native.Mathlib.Omega.{arith}
 use native.Mathlib.Decide.{ℕ-discrete}
 use borrow.Author.Tests.{lt-ltb, le-ltb}
-use lib.ListN.{length, getD, take, drop, replicate}
+use lib.ListN.{length, take}
 use lib.Seq.{drop-cons}
 use Rattle.rules.specs.Extents.{none, extent, join, runs, flat}
 use Rattle.rules.specs.Device.{Device, lines, at}
 use Rattle.rules.specs.Read.{hole, holes, found}
-use Rattle.rules.specs.Calls.{Call, refusal, lists, over}
+use Rattle.rules.specs.Calls.{Call, refusal, lists}
 use Rattle.rules.specs.declared.Extent.{Extent}
 use Rattle.laws.specs.Runs.{runs-hole, runs-page}
 use Rattle.laws.specs.Kept.{passes}

@@ -1,5 +1,5 @@
 -- Where histories start: any sound state on a flash that is erased from each fill on, and the fresh device on erased flash.
-use Prim.Native.Nat.{ℕ, zero, suc, _+_, _-_, _*_, _≤_, _<_}
+use Prim.Native.Nat.{ℕ, zero, suc, _+_, _*_, _<_}
 use mathlib.Core.Bool.{true, _&&_}
 use mathlib.Core.Path.{_≡_, refl, sym, ap, _∙_}
 use mathlib.Core.List.{List, []}
@@ -12,16 +12,17 @@ use Rattle.rules.specs.Extents.{none, runs}
 use Rattle.rules.specs.Lent.{Lent, fillOf}
 use Rattle.rules.specs.Shape.{sizes, lengths, shaped}
 use Rattle.rules.specs.Sound.{sound}
-use Rattle.rules.specs.Device.{Device, blocks, lines, at, extents, deviceOf, wordsOf}
-use Rattle.rules.specs.Calls.{freshDevice, fresh}
+use Rattle.rules.specs.Device.{blocks, lines, at, extents, deviceOf, wordsOf}
+use Rattle.rules.specs.Calls.{freshDevice, sizesOnly, fresh}
 use Rattle.laws.specs.Bools.{cases, and-split}
 use Rattle.laws.specs.Cells.{length-tabulate, getD-tabulate, replicate-at}
 use Rattle.laws.specs.Runs.{runs-hole}
 use Rattle.laws.specs.Fresh.{fresh-blocks, fresh-lines, fresh-at, fresh-sound}
-use Rattle.laws.specs.Flash.{Cell, erased, Seen, hole, contents, see-hole, Clean}
+use Rattle.laws.specs.Flash.{Cell, erased, hole, contents, see-hole, Clean}
 use Rattle.laws.specs.Sane.{Sizes, Good}
 use Rattle.laws.specs.Shapes.{sizes-true, pages-words}
-use Rattle.laws.specs.States.{device-lines, device-blocks, device-fill, sound-iff}
+use Rattle.laws.specs.States.{device-lines, device-blocks, device-fill, good-shaped, good-sound}
+use Rattle.laws.specs.Kept.{device-good, device-is}
 use Rattle.laws.specs.Host.{reads, World, ErasedFromFill, begin}
 use Rattle.laws.specs.Agrees.{Agrees}
 use Rattle.laws.specs.Worlds.{Holds, reads-contents}
@@ -29,12 +30,6 @@ use Rattle.laws.specs.Worlds.{Holds, reads-contents}
 -- ---- a sound state
 
 module _ (s : Lent) (z : shaped s ≡ true) (e : sound s ≡ true) where
-  pub device-good : Good (deviceOf s)
-  device-good = sound-iff s z .0 e .0
-
-  pub device-is : wordsOf (deviceOf s) ≡ s
-  device-is = sound-iff s z .0 e .1
-
   module _ (f : List Cell) (c : ErasedFromFill s f) where
     begin-clean : Clean (deviceOf s) f
     unfolding deviceOf
@@ -45,7 +40,7 @@ module _ (s : Lent) (z : shaped s ≡ true) (e : sound s ≡ true) where
 
     begin-reads : (l : ℕ) → l < s .head .logical → reads s f l ≡ contents (deviceOf s) f l
     begin-reads l h =
-        ap (λ (x : Lent). reads x f l) (sym device-is) ∙ reads-contents (deviceOf s) f device-good l (omega (arith, device-lines s))
+        ap (λ (x : Lent). reads x f l) (sym (device-is s z e)) ∙ reads-contents (deviceOf s) f (device-good s z e) l (omega (arith, device-lines s))
 
     begin-says : (l : ℕ) → contents (deviceOf s) f l ≡ getD (tabulate (s .head .logical) (reads s f)) l hole
     unfolding contents
@@ -58,7 +53,7 @@ module _ (s : Lent) (z : shaped s ≡ true) (e : sound s ≡ true) where
 
     begin-is : begin s f ≡ record { state = wordsOf (deviceOf s); flash = f; programmed = deviceOf s .fills; table = tabulate (s .head .logical) (reads s f) }
     unfolding begin deviceOf
-    begin-is = ap (λ (x : Lent). record { state = x; flash = f; programmed = tabulate (s .head .blocks) (fillOf s); table = tabulate (s .head .logical) (reads s f) }) (sym device-is)
+    begin-is = ap (λ (x : Lent). record { state = x; flash = f; programmed = tabulate (s .head .blocks) (fillOf s); table = tabulate (s .head .logical) (reads s f) }) (sym (device-is s z e))
 
     pub begin-holds : Holds (s .head .logical) (begin s f)
     begin-holds = record {
@@ -66,7 +61,7 @@ module _ (s : Lent) (z : shaped s ≡ true) (e : sound s ≡ true) where
       flash = f;
       table = tabulate (s .head .logical) (reads s f);
       is = begin-is;
-      good = device-good;
+      good = device-good s z e;
       lines = device-lines s;
       agrees = record { clean = begin-clean; size = length-tabulate (s .head .logical) (reads s f) ∙ sym (device-lines s); says = begin-says };
     }
@@ -121,11 +116,28 @@ module _ (b n l m : ℕ) (z : sizes b n l m ≡ true) where
 
 -- an accepted fresh leaves that state, whatever was lent
 pub fresh-leaves : (b n l m : ℕ) (es bs ss : List ℕ) → fresh b n l m es bs ss .refusal ≡ 0
-    → (sizes b n l m ≡ true) × (fresh b n l m es bs ss .after ≡ freshWorld b n l m .state)
-unfolding fresh freshWorld
+    → (sizes b n l m ≡ true) × (fresh b n l m es bs ss .after ≡ wordsOf (freshDevice b n l m))
+unfolding fresh
 fresh-leaves b n l m es bs ss e =
     let size = sizes b n l m in
     let fit = lengths b n m (length es) (length bs) (length ss) in
     cases (size && fit)
     (λ t. (and-split size fit t .0, rw t))
     (λ t. let g : _≡_ {A = ℕ} 1 0 = rw t at e in absurd (omega arith))
+
+-- which is sound
+pub fresh-leaves-sound : (b n l m : ℕ) (es bs ss : List ℕ) → fresh b n l m es bs ss .refusal ≡ 0
+    → (shaped (fresh b n l m es bs ss .after) ≡ true) × (sound (fresh b n l m es bs ss .after) ≡ true)
+fresh-leaves-sound b n l m es bs ss e =
+    let p = fresh-leaves b n l m es bs ss e in
+    let g = fresh-good b n l m (p .0) in
+    (rw (p .1) (good-shaped (freshDevice b n l m) g), rw (p .1) (good-sound (freshDevice b n l m) g))
+
+-- a refused one leaves every word, and the sizes as they were given
+pub fresh-refused : (b n l m : ℕ) (es bs ss : List ℕ) → (fresh b n l m es bs ss .refusal ≡ 0 → ⊥)
+    → fresh b n l m es bs ss .after ≡ record { head = sizesOnly b n l m; extents = es; blocks = bs; spare = ss }
+unfolding fresh
+fresh-refused b n l m es bs ss e =
+    cases (sizes b n l m && lengths b n m (length es) (length bs) (length ss))
+    (λ t. absurd (e (rw t)))
+    (λ t. rw t)

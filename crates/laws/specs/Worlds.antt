@@ -1,24 +1,24 @@
 -- A history at the device: each step of it leaves a good device with its flash and its lines, and the host may do what is listed.
-use Prim.Native.Nat.{ℕ, suc, _+_, _-_, _*_, _≤_, _<_}
+use Prim.Native.Nat.{ℕ, _+_, _*_, _≤_, _<_}
 use mathlib.Core.Bool.{cond}
-use mathlib.Core.Path.{_≡_, refl, sym, ap, ap₂, _∙_, subst}
+use mathlib.Core.Path.{_≡_, refl, sym, ap, _∙_, subst}
 use mathlib.Core.List.{List, [], _∷_, _++_}
 use mathlib.Core.Logic.{by-cases}
 use native.Mathlib.Omega.{arith}
 use native.Mathlib.Decide.{ℕ-discrete}
 use borrow.Author.Tests.{eq-eqb, ne-eqb}
 use lib.Dec.{eqb}
-use lib.ListN.{length, getD, take, drop, set, replicate, length-set}
+use lib.ListN.{length, getD, drop, set, replicate, length-set}
 use lib.Seq.{sets, length-sets, take-append-seam}
 use Rattle.rules.specs.Counting.{tabulate}
-use Rattle.rules.specs.Extents.{none, slots, flat}
+use Rattle.rules.specs.Extents.{none, flat}
 use Rattle.rules.specs.Lent.{Lent}
-use Rattle.rules.specs.Device.{Device, blocks, lines, at, valid, headOf, wordsOf}
+use Rattle.rules.specs.Device.{Device, lines, at, valid, headOf, wordsOf}
 use Rattle.rules.specs.Placement.{targets, puts, places, pieces}
 use Rattle.rules.specs.Number.{withTable, numbered, written, trimmed}
 use Rattle.rules.specs.Reclaim.{victim, sources, reclaimedAt, reclaimed}
 use Rattle.rules.specs.Answers.{Outcome}
-use Rattle.rules.specs.Calls.{Call, refusal, counts, leaves, lists, over, buffer, refused, accepted, plain, call}
+use Rattle.rules.specs.Calls.{Call, refusal, counts, leaves, lists, over, refused, accepted, plain, call}
 use Rattle.rules.specs.declared.Head.{Head}
 use Rattle.laws.specs.Cells.{length-tabulate, tabulate-same}
 use Rattle.laws.specs.Slots.{slots-flat}
