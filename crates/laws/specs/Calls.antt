@@ -1,6 +1,6 @@
 -- A call on the words of a good device is the call on the plain device, its device as words; and what a call does with words that are of no such device.
 use Prim.Native.Nat.{ℕ}
-use mathlib.Core.Bool.{Bool, true, false}
+use mathlib.Core.Bool.{true, false}
 use mathlib.Core.Path.{_≡_, refl, sym, ap, _∙_}
 use Rattle.rules.specs.Lent.{Lent}
 use Rattle.rules.specs.Shape.{shaped}

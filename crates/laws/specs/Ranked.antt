@@ -7,7 +7,6 @@ use mathlib.Core.Logic.{by-cases}
 use native.Mathlib.Omega.{arith}
 use native.Mathlib.Decide.{decLt, ℕ-discrete}
 use Rattle.rules.specs.Extents.{none, end, lookup, joinable, slot, slots}
-use Rattle.rules.specs.declared.Extent.{Extent}
 use Rattle.laws.specs.Rows.{Row, Rows, rows-le, lookup-before, lookup-in, lookup-after}
 use Rattle.laws.specs.Runs.{joinable-false, joinable-first}
 use Rattle.laws.specs.Norm.{Fits}
@@ -42,9 +41,9 @@ module _ (n hi : ℕ) (ws : List ℕ) where
         (λ t. joinable-false n (slot ws i) (slot ws (i + 1)) (r .inside i (omega arith)) (r .apart i (i + 1) (omega arith) t)),
   )
 
-  pub ranked-rows : (u : ℕ) → 0 ≤ hi → Ranked n hi ws u → Rows n 0 none hi (slots ws 0 u)
-  ranked-rows u z r =
-      ranked-from u r 0 u 0 none (omega arith) z (λ t. omega arith)
+  pub ranked-rows : (u : ℕ) → Ranked n hi ws u → Rows n 0 none hi (slots ws 0 u)
+  ranked-rows u r =
+      ranked-from u r 0 u 0 none (omega arith) (omega arith) (λ t. omega arith)
       (λ t a b. absurd (omega (arith, r .small 0 t, r .some 0 t)))
 
   -- each slot, and each with the next

@@ -1,8 +1,7 @@
 -- The tests of rules 1 to 6 pass exactly where the facts of `Sane` hold.
-use Prim.Native.Nat.{ℕ, zero, suc, _+_, _-_, _*_, _/_, _%_, _≤_, _<_}
+use Prim.Native.Nat.{ℕ, suc, _+_, _-_, _*_, _/_, _%_, _≤_, _<_}
 use mathlib.Core.Bool.{Bool, true, false, not, cond}
-use mathlib.Core.Path.{_≡_, refl, sym, ap, _∙_, subst}
-use mathlib.Core.List.{List}
+use mathlib.Core.Path.{_≡_, refl, sym, ap, _∙_}
 use mathlib.Core.Logic.{by-cases}
 use native.Mathlib.Omega.{arith}
 use native.Mathlib.Decide.{decLt}
@@ -11,15 +10,14 @@ use borrow.Author.Tests.{leb-true, le-leb, ltb-true, lt-ltb, le-ltb, eqb-true, e
 use lib.Dec.{leb, ltb, eqb}
 use lib.ListN.{length, getD}
 use Rattle.rules.specs.Counting.{sum, count, all}
-use Rattle.rules.specs.Extents.{none, end, joinable, slot, slots}
-use Rattle.rules.specs.Lent.{Lent, slotOf, inUse, fillOf, validOf, labelOf, blockOf, offsetOf}
-use Rattle.rules.specs.Sound.{rule1, rule2, rule3, programmed, rule4, mappedIn, rule5, rule6, sound}
-use Rattle.rules.specs.declared.Extent.{Extent}
+use Rattle.rules.specs.Extents.{none, end, joinable}
+use Rattle.rules.specs.Lent.{Lent, slotOf, fillOf, validOf, labelOf, blockOf, offsetOf}
+use Rattle.rules.specs.Sound.{rule1, rule2, rule3, rule4, mappedIn, rule5, rule6, sound}
 use Rattle.laws.specs.Bools.{and-split, and-join}
 use Rattle.laws.specs.Sums.{sum-same, count-const, all-each, each-all}
 use Rattle.laws.specs.Rows.{mod-shift, div-shift}
 use Rattle.laws.specs.Ranked.{Ranked, ranked-rows, rows-ranked}
-use Rattle.laws.specs.Shapes.{some-pages, pages-words}
+use Rattle.laws.specs.Shapes.{some-pages, pages-fit}
 use Rattle.laws.specs.Sane.{Shaped, Sane, pagesIn}
 
 -- ---- an extent that lies in its block: all of its pages are in that block
@@ -218,7 +216,7 @@ module _ (s : Lent) (z : Shaped s) (e : sound s ≡ true) where
     rising = one .rising;
     high = one .high;
     inside = two .inside;
-    small = λ i h. omega (arith, one .some i h, last i h .inside, pages-words (z .sizes));
+    small = λ i h. omega (arith, one .some i h, last i h .inside, pages-fit (z .sizes));
     apart = two .apart;
   }
 
@@ -227,7 +225,7 @@ module _ (s : Lent) (z : Shaped s) (e : sound s ≡ true) where
       let six = rule6-true s (rules .5) in
       record {
         few = one .few;
-        rows = ranked-rows (s .head .pages) (s .head .logical) (s .extents) (s .head .used) (omega arith) ranked;
+        rows = ranked-rows (s .head .pages) (s .head .logical) (s .extents) (s .head .used) ranked;
         zeros = one .zeros;
         full = three .full;
         labels = three .labels;

@@ -1,23 +1,22 @@
--- From a sound state to its plain device and back: a state is sound exactly when its words are those of a good device, and that device is its own.
-use Prim.Native.Nat.{ℕ, zero, suc, _+_, _-_, _*_, _/_, _%_, _≤_, _<_}
+-- From a sound state to its plain device and back: a state is sound exactly when it is the words of its own device and that device is good.
+use Prim.Native.Nat.{ℕ, _+_, _-_, _*_, _/_, _%_, _≤_, _<_}
 use mathlib.Core.Bool.{true}
 use mathlib.Core.Path.{_≡_, refl, sym, ap, ap₂, _∙_, subst, subst₂}
-use mathlib.Core.List.{List, [], _∷_, _++_}
+use mathlib.Core.List.{List, _++_}
 use mathlib.Core.Logic.{_↔_, by-cases}
 use native.Mathlib.Omega.{arith}
 use native.Mathlib.Decide.{decLt, ℕ-discrete}
 use native.Mathlib.Nat.{div-add-mod', div-lt-iff-lt-mul}
 use lib.Dec.{eqb}
 use lib.Arith.{digits-div, digits-mod, digits-lt}
-use lib.ListN.{length, getD, take, drop, replicate, length-append, length-replicate, length-drop, take-append-drop, List·getD-eq-default}
+use lib.ListN.{length, getD, drop, replicate, length-append, length-replicate, length-drop, take-append-drop, List·getD-eq-default}
 use lib.Seq.{ext-getD, getD-drop, getD-append-add}
 use Rattle.rules.specs.Counting.{sum, count, tabulate}
-use Rattle.rules.specs.Extents.{none, lookup, runs, slot, slots, flat}
+use Rattle.rules.specs.Extents.{none, lookup, slots, flat}
 use Rattle.rules.specs.Lent.{Lent, slotOf, inUse, fillOf, validOf, labelOf}
 use Rattle.rules.specs.Shape.{shaped}
 use Rattle.rules.specs.Sound.{sound}
-use Rattle.rules.specs.Device.{Device, blocks, lines, at, fill, label, valid, extents, tableOf, deviceOf, headOf, wordsOf}
-use Rattle.rules.specs.declared.Head.{Head}
+use Rattle.rules.specs.Device.{Device, blocks, lines, at, fill, valid, extents, tableOf, deviceOf, headOf, wordsOf}
 use Rattle.rules.specs.declared.Extent.{Extent}
 use Rattle.laws.specs.Sums.{count-same}
 use Rattle.laws.specs.Cells.{length-tabulate, getD-tabulate, replicate-at}
@@ -25,11 +24,11 @@ use Rattle.laws.specs.Rows.{Rows}
 use Rattle.laws.specs.Runs.{Words, runs-rows, runs-lookup, again}
 use Rattle.laws.specs.Slots.{slots-length, flat-length, slots-flat, flat-slots}
 use Rattle.laws.specs.Records.{records-length, records-fill, records-valid, words-records}
-use Rattle.laws.specs.Device.{Home, Sound, page-lt, none-block, offset-lt, home-block}
+use Rattle.laws.specs.Device.{Home, Sound, page-lt, none-block, offset-lt}
 use Rattle.laws.specs.Balance.{valid-lines}
-use Rattle.laws.specs.Sane.{Sizes, Shaped, Sane, Good, pagesIn}
-use Rattle.laws.specs.Shapes.{some-pages, pages-words, shaped-true, true-shaped}
-use Rattle.laws.specs.Ranked.{Held, rows-one, slot-lookup, lookup-held, rows-ranked}
+use Rattle.laws.specs.Sane.{Shaped, Sane, Good, pagesIn}
+use Rattle.laws.specs.Shapes.{some-pages, pages-fit, shaped-true, true-shaped}
+use Rattle.laws.specs.Ranked.{rows-one, slot-lookup, lookup-held, rows-ranked}
 use Rattle.laws.specs.Sanes.{Page, sane-page, sound-sane, ranked-sound}
 use Rattle.laws.specs.Tallies.{in-slots}
 
@@ -125,7 +124,7 @@ module _ (s : Lent) (z : Shaped s) (f : Sane s) where
       let blocks-in : (b : ℕ) → b < blocks (deviceOf s) → b < s .head .blocks = λ b h. omega (arith, device-blocks s) in
       record {
         some = some-pages (z .sizes);
-        words = rw (device-blocks s) (pages-words (z .sizes));
+        words = rw (device-blocks s) (pages-fit (z .sizes));
         whole = z .spare ∙ ap (λ (x : ℕ). x * n) (sym (device-blocks s));
         full = λ b h. omega (arith, f .full b (blocks-in b h), device-fill s b (blocks-in b h));
         labels = λ b o h k. omega (arith, f .labels b o (blocks-in b h) (omega (arith, device-fill s b (blocks-in b h))), device-lines s);
