@@ -20,7 +20,7 @@ use Rattle.laws.specs.Runs.{runs-hole}
 use Rattle.laws.specs.Fresh.{fresh-blocks, fresh-lines, fresh-at, fresh-sound}
 use Rattle.laws.specs.Flash.{Cell, erased, hole, contents, see-hole, Clean}
 use Rattle.laws.specs.Sane.{Sizes, Good}
-use Rattle.laws.specs.Shapes.{sizes-true, pages-words}
+use Rattle.laws.specs.Shapes.{sizes-true, pages-fit}
 use Rattle.laws.specs.States.{device-lines, device-blocks, device-fill, good-shaped, good-sound}
 use Rattle.laws.specs.Kept.{device-good, device-is}
 use Rattle.laws.specs.Host.{reads, World, ErasedFromFill, begin}
@@ -90,7 +90,7 @@ module _ (b n l m : ℕ) (z : sizes b n l m ≡ true) where
   unfolding freshDevice extents
   fresh-good = record {
     sizes = rw (fresh-blocks b n l m, fresh-lines b n l m) is-sized;
-    sound = fresh-sound b n l m (is-sized .n-low) (omega (arith, is-sized .b-low)) (pages-words is-sized);
+    sound = fresh-sound b n l m (is-sized .n-low) (omega (arith, is-sized .b-low)) (pages-fit is-sized);
     few = omega (arith, ap length (runs-none n 0 l));
   }
 
