@@ -90,29 +90,10 @@ program [] xs f = f
 program (p ∷ ps) [] f = f
 program (p ∷ ps) (x ∷ xs) f = program ps xs (set f p (value x))
 
--- each is erased when it is programmed
-abbrev pub Ready : List ℕ → List ℕ → List Cell → Type 0
-Ready [] xs f = Unit {0}
-Ready (p ∷ ps) [] f = Unit {0}
-Ready (p ∷ ps) (x ∷ xs) f = (p < length f) × (getD f p erased ≡ erased) × Ready ps xs (set f p (value x))
-
 pub record Written (d : Device) (f : List Cell) (l : ℕ) (xs : List ℕ) (d′ : Device) (f′ : List Cell) : Type 0 where
   pub clean : Clean d′ f′
   pub shows : (i j : ℕ) → i < length xs → j ≡ l + i → contents d′ f′ j ≡ cell (value (getD xs i 0))
   pub keeps : (k : ℕ) → (l ≤ k → k < l + length xs → ⊥) → contents d′ f′ k ≡ contents d f k
-
-pub write-ready : (l : ℕ) (bs xs : List ℕ) (d : Device) (f : List Cell) → Sound d → Clean d f → Opens l bs d → l + length bs ≤ lines d
-    → Ready (placesAt l bs d) xs f
-unfolding placesAt
-write-ready l [] xs d f s c v h = tt
-write-ready l (b ∷ bs) [] d f s c v h = tt
-write-ready l (b ∷ bs) (x ∷ xs) d f s c v h =
-    let a : l < lines d = omega arith in
-    let o = put-one b l d s (v .0) a in (
-      put-inside d s f c b (v .0) l a x,
-      put-ready d s f c b (v .0) l a x,
-      write-ready (suc l) bs xs (putAt b l d) (set f (b * d .pages + fill d b) (value x)) (o .sound) (put-clean d s f c b (v .0) l a x) (v .1) (omega (arith, o .lines)),
-    )
 
 pub write-shows : (l : ℕ) (bs xs : List ℕ) (d : Device) (f : List Cell) → Sound d → Clean d f → Opens l bs d → l + length bs ≤ lines d → length bs ≡ length xs
     → Written d f l xs (putsAt l bs d) (program (placesAt l bs d) xs f)

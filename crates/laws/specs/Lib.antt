@@ -24,7 +24,6 @@ pub mod Valid
 pub mod Settle
 pub mod Fresh
 pub mod Flash
-pub mod History
 pub mod Sane
 pub mod Host
 pub mod Shapes
@@ -35,3 +34,13 @@ pub mod Records
 pub mod States
 pub mod Calls
 pub mod Until
+pub mod Encoded
+pub mod Kept
+pub mod Growth
+pub mod Listed
+pub mod Agrees
+pub mod Reads
+pub mod Worlds
+pub mod Starts
+pub mod Demand2
+pub mod Demand3

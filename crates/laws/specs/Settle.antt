@@ -77,12 +77,3 @@ never-stuck d s two h z =
     let k = blocks d - 2 in
     let e : blocks d ≡ suc (suc k) = omega arith in
     omega (arith, balance d s, live-le d, ap (λ (x : ℕ). x * d .pages) e, suc-mul k (d .pages), suc-mul (suc k) (d .pages))
-
--- at most B - 1 reclaims, and then every write of at most N pages finds its pages
-pub settled : (d : Device) → Sound d → 2 ≤ blocks d → lines d ≤ (blocks d - 2) * d .pages
-    → Settled d (settle (blocks d - 1) d) × (d .pages ≤ free (settle (blocks d - 1) d))
-settled d s two h =
-    let r = settle-ends (blocks d - 1) d s (omega (arith, stale-blocks-lt d s)) in
-    let e = settle (blocks d - 1) d in
-    let room = never-stuck e (r .sound) (omega (arith, r .blocks)) (rw (r .lines, r .blocks, r .pages) h) (r .clean) in
-    (r, omega (arith, room, r .pages))
