@@ -27,4 +27,7 @@ pub mod Flash
 pub mod History
 pub mod Sane
 pub mod Host
+pub mod Shapes
+pub mod Sanes
+pub mod Tallies
 pub mod Until
