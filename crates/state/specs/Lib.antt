@@ -1,0 +1,4 @@
+pub mod Says
+pub mod Shaped
+pub mod Slot
+pub mod Block

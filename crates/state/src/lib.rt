@@ -1,0 +1,136 @@
+// Refusals 1 and 2 on lent words, and the three counts of a state. `shape_ok` takes any head and any lengths; what
+// comes after it stands behind it.
+use rules::Head;
+ghost use mathlib.Core.Path.{_≡_};
+ghost use mathlib.Core.Bool.{true};
+ghost use Prim.Native.Nat.{ℕ, _+_, _-_, _*_, _<_, _≤_};
+ghost use lib.ListN.{length, getD};
+ghost use Rattle.rules.specs.Shape.{sizes, lengths, shape};
+ghost use Rattle.state.specs.Says.{Says};
+ghost use Rattle.state.specs.Slot.{Stands, Placed, Home};
+ghost use Rattle.state.specs.Block.{Labels};
+
+// ---- refusal 1
+
+pub fn sizes_ok(b: u32, n: u32, l: u32, m: u32) -> bool
+    ensures { λ r. ⌜ r ≡ sizes b n l m ⌝ }
+{
+    if b < 3 {
+        return false;
+    }
+    if b > 1024 {
+        return false;
+    }
+    if n < 1 {
+        return false;
+    }
+    if n > 256 {
+        return false;
+    }
+    if l < 1 {
+        return false;
+    }
+    if l > (b - 2) * n {
+        return false;
+    }
+    if m < 1 {
+        return false;
+    }
+    if m > 8192 {
+        return false;
+    }
+    true
+}
+
+// The product of two words fits a usize.
+pub fn lengths_ok(b: u32, n: u32, m: u32, ext: usize, blk: usize, spare: usize) -> bool
+    ensures { λ r. ⌜ r ≡ lengths b n m ext blk spare ⌝ }
+{
+    if ext != 3 * (m as usize) {
+        return false;
+    }
+    if blk != words::STRIDE * (b as usize) {
+        return false;
+    }
+    if spare != (b as usize) * (n as usize) {
+        return false;
+    }
+    true
+}
+
+pub fn shape_ok(h: Head, ext: usize, blk: usize, spare: usize) -> bool
+    ensures { λ r. ⌜ r ≡ shape h ext blk spare ⌝ }
+{
+    if !sizes_ok(h.blocks, h.pages, h.logical, h.slots) {
+        return false;
+    }
+    lengths_ok(h.blocks, h.pages, h.slots, ext, blk, spare)
+}
+
+// ---- refusal 2, slot by slot
+
+// Rules 1 and 2 for a slot behind one that ended before (lo, q).
+fn row_ok(n: u32, top: u32, lo: u32, q: u32, l: u32, p: u32, c: u32) -> bool
+    requires { ⌜ 0 < n ⌝ }
+    ensures { λ r. ⌜ Says r (Stands n top lo q l p c) ⌝ }
+{
+    if l < lo {
+        return false;
+    }
+    if c == 0 {
+        return false;
+    }
+    if l > top {
+        return false;
+    }
+    if c > top - l {
+        return false;
+    }
+    if c > 4294967295 - p {
+        return false;
+    }
+    let o = p % n;
+    if c > n - o {
+        return false;
+    }
+    if l != lo {
+        return true;
+    }
+    if p != q {
+        return true;
+    }
+    o == 0
+}
+
+// Rule 4 for a slot that stands by rules 1 and 2.
+fn home_ok(blk: &[u32], spare: &[u32], blocks: u32, n: u32, l: u32, p: u32, c: u32) -> bool
+    requires { ⌜ Placed (now blk) (now spare) blocks n l p c ⌝ }
+    ensures { λ r. ⌜ Says r (Home (now (blk .entry)) (now (spare .entry)) blocks n l p c) ⌝ }
+{
+    let b = p / n;
+    if b >= blocks {
+        return false;
+    }
+    if words::fill_of(blk, b as usize) < p % n + c {
+        return false;
+    }
+    let from = p as usize;
+    let to = from + (c as usize);
+    words::all_rise(&spare[from..to], l)
+}
+
+// ---- refusal 2, block by block
+
+// Rule 3 for one block: its fill, and the spare entries of its pages.
+fn block_ok(fill: u32, part: &[u32], top: u32) -> bool
+    ensures { λ r. ⌜ Says r (Labels fill top (now (part .entry))) ⌝ }
+{
+    let f = fill as usize;
+    if f > part.len() {
+        return false;
+    }
+    if !words::all_below(&part[..f], top) {
+        return false;
+    }
+    words::all_are(&part[f..], 4294967295)
+}
