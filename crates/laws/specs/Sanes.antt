@@ -1,8 +1,7 @@
 -- The tests of rules 1 to 6 pass exactly where the facts of `Sane` hold.
-use Prim.Native.Nat.{ℕ, zero, suc, _+_, _-_, _*_, _/_, _%_, _≤_, _<_}
+use Prim.Native.Nat.{ℕ, suc, _+_, _-_, _*_, _/_, _%_, _≤_, _<_}
 use mathlib.Core.Bool.{Bool, true, false, not, cond}
-use mathlib.Core.Path.{_≡_, refl, sym, ap, _∙_, subst}
-use mathlib.Core.List.{List}
+use mathlib.Core.Path.{_≡_, refl, sym, ap, _∙_}
 use mathlib.Core.Logic.{by-cases}
 use native.Mathlib.Omega.{arith}
 use native.Mathlib.Decide.{decLt}
@@ -11,94 +10,15 @@ use borrow.Author.Tests.{leb-true, le-leb, ltb-true, lt-ltb, le-ltb, eqb-true, e
 use lib.Dec.{leb, ltb, eqb}
 use lib.ListN.{length, getD}
 use Rattle.rules.specs.Counting.{sum, count, all}
-use Rattle.rules.specs.Extents.{none, end, joinable, slot, slots}
-use Rattle.rules.specs.Lent.{Lent, slotOf, inUse, fillOf, validOf, labelOf, blockOf, offsetOf}
-use Rattle.rules.specs.Sound.{rule1, rule2, rule3, programmed, rule4, mappedIn, rule5, rule6, sound}
-use Rattle.rules.specs.declared.Extent.{Extent}
+use Rattle.rules.specs.Extents.{none, end, joinable}
+use Rattle.rules.specs.Lent.{Lent, slotOf, fillOf, validOf, labelOf, blockOf, offsetOf}
+use Rattle.rules.specs.Sound.{rule1, rule2, rule3, rule4, mappedIn, rule5, rule6, sound}
 use Rattle.laws.specs.Bools.{and-split, and-join}
 use Rattle.laws.specs.Sums.{sum-same, count-const, all-each, each-all}
-use Rattle.laws.specs.Rows.{Row, Rows, rows-le, mod-shift, div-shift}
-use Rattle.laws.specs.Runs.{joinable-false, joinable-first}
-use Rattle.laws.specs.Norm.{Fits}
-use Rattle.laws.specs.Shapes.{some-pages, pages-words}
+use Rattle.laws.specs.Rows.{mod-shift, div-shift}
+use Rattle.laws.specs.Ranked.{Ranked, ranked-rows, rows-ranked}
+use Rattle.laws.specs.Shapes.{some-pages, pages-fit}
 use Rattle.laws.specs.Sane.{Shaped, Sane, pagesIn}
-
--- ---- rules 1 and 2, slot by slot
-
--- what is asked of each of u slots and of each two neighbours
-pub record Ranked (n hi : ℕ) (ws : List ℕ) (u : ℕ) : Type 0 where
-  pub some : (i : ℕ) → i < u → 1 ≤ slot ws i .count
-  pub rising : (i j : ℕ) → j ≡ suc i → j < u → end (slot ws i) ≤ slot ws j .logical
-  pub high : (i : ℕ) → i < u → end (slot ws i) ≤ hi
-  pub inside : (i : ℕ) → i < u → slot ws i .physical % n + slot ws i .count ≤ n
-  pub small : (i : ℕ) → i < u → slot ws i .physical + slot ws i .count ≤ none
-  pub apart : (i j : ℕ) → j ≡ suc i → j < u → joinable n (slot ws i) (slot ws j) ≡ false
-
-module _ (n hi : ℕ) (ws : List ℕ) where
-  -- from slot i on, behind one that ended before (lo, q)
-  ranked-from : (u : ℕ) → Ranked n hi ws u → (i m lo q : ℕ) → i + m ≡ u → lo ≤ hi
-      → (i < u → lo ≤ slot ws i .logical)
-      → (i < u → slot ws i .logical ≡ lo → slot ws i .physical ≡ q → slot ws i .physical % n ≡ 0)
-      → Rows n lo q hi (slots ws i m)
-  unfolding slots
-  ranked-from u r i zero lo q e h above apart = h
-  ranked-from u r i (suc m) lo q e h above apart = (
-    record {
-      above = above (omega arith);
-      some = r .some i (omega arith);
-      inside = r .inside i (omega arith);
-      small = r .small i (omega arith);
-      apart = apart (omega arith);
-    },
-    ranked-from u r (i + 1) m _ _ (omega arith) (r .high i (omega arith))
-        (λ t. r .rising i (i + 1) (omega arith) t)
-        (λ t. joinable-false n (slot ws i) (slot ws (i + 1)) (r .inside i (omega arith)) (r .apart i (i + 1) (omega arith) t)),
-  )
-
-  pub ranked-rows : (u : ℕ) → 0 ≤ hi → Ranked n hi ws u → Rows n 0 none hi (slots ws 0 u)
-  ranked-rows u z r =
-      ranked-from u r 0 u 0 none (omega arith) z (λ t. omega arith)
-      (λ t a b. absurd (omega (arith, r .small 0 t, r .some 0 t)))
-
-  -- each slot, and each with the next
-  pub rows-slot : (m i lo q : ℕ) → Rows n lo q hi (slots ws i m) → (j k : ℕ) → j < m → k ≡ i + j → Fits n lo (slot ws k) × (end (slot ws k) ≤ hi)
-  unfolding slots
-  rows-slot zero i lo q h j k s e = absurd (omega arith)
-  rows-slot (suc m) i lo q h zero k s e =
-      let at : k ≡ i = omega arith in
-      let r = h .0 in
-      rw at (record { above = r .above; some = r .some; inside = r .inside; small = r .small }, rows-le n hi (slots ws (i + 1) m) _ _ (h .1))
-  rows-slot (suc m) i lo q h (suc j) k s e =
-      let r = rows-slot m (i + 1) _ _ (h .1) j k (omega arith) (omega arith) in
-      let f = r .0 in
-      (record { above = omega (arith, h .0 .above); some = f .some; inside = f .inside; small = f .small }, r .1)
-
-  pub rows-next : (m i lo q : ℕ) → Rows n lo q hi (slots ws i m) → (j a b : ℕ) → suc j < m → a ≡ i + j → b ≡ suc a
-      → Row n (end (slot ws a)) (slot ws a .physical + slot ws a .count) (slot ws b)
-  unfolding slots
-  rows-next zero i lo q h j a b s e f = absurd (omega arith)
-  rows-next (suc zero) i lo q h j a b s e f = absurd (omega arith)
-  rows-next (suc (suc m)) i lo q h zero a b s e f =
-      let at : a ≡ i = omega arith in
-      let next : b ≡ i + 1 = omega arith in
-      rw (next, at) (h .1 .0)
-  rows-next (suc (suc m)) i lo q h (suc j) a b s e f = rows-next (suc m) (i + 1) _ _ (h .1) j a b (omega arith) (omega arith) f
-
-  pub rows-ranked : (u : ℕ) → Rows n 0 none hi (slots ws 0 u) → Ranked n hi ws u
-  rows-ranked u h = record {
-    some = λ i t. each i t .0 .some;
-    rising = λ i j e t. next i j e t .above;
-    high = λ i t. each i t .1;
-    inside = λ i t. each i t .0 .inside;
-    small = λ i t. each i t .0 .small;
-    apart = λ i j e t. joinable-first n (slot ws i) (slot ws j) (each i (omega arith) .0 .some) (next i j e t .apart);
-  }
-    where
-      each : (i : ℕ) → i < u → Fits n 0 (slot ws i) × (end (slot ws i) ≤ hi)
-      each i t = rows-slot u 0 0 none h i i t (omega arith)
-
-      next : (i j : ℕ) → j ≡ suc i → j < u → Row n (end (slot ws i)) (slot ws i .physical + slot ws i .count) (slot ws j)
-      next i j e t = rows-next u 0 0 none h i i j (omega arith) (omega arith) e
 
 -- ---- an extent that lies in its block: all of its pages are in that block
 
@@ -296,7 +216,7 @@ module _ (s : Lent) (z : Shaped s) (e : sound s ≡ true) where
     rising = one .rising;
     high = one .high;
     inside = two .inside;
-    small = λ i h. omega (arith, one .some i h, last i h .inside, pages-words (z .sizes));
+    small = λ i h. omega (arith, one .some i h, last i h .inside, pages-fit (z .sizes));
     apart = two .apart;
   }
 
@@ -305,7 +225,7 @@ module _ (s : Lent) (z : Shaped s) (e : sound s ≡ true) where
       let six = rule6-true s (rules .5) in
       record {
         few = one .few;
-        rows = ranked-rows (s .head .pages) (s .head .logical) (s .extents) (s .head .used) (omega arith) ranked;
+        rows = ranked-rows (s .head .pages) (s .head .logical) (s .extents) (s .head .used) ranked;
         zeros = one .zeros;
         full = three .full;
         labels = three .labels;
@@ -320,15 +240,32 @@ module _ (s : Lent) (z : Shaped s) (e : sound s ≡ true) where
 
 -- ---- to the tests
 
+-- rules 1 to 6, where rules 1 and 2 hold slot by slot
+module _ (s : Lent) (few : s .head .used ≤ s .head .slots) (r : Ranked (s .head .pages) (s .head .logical) (s .extents) (s .head .used))
+    (zeros : (k : ℕ) → 3 * s .head .used ≤ k → k < length (s .extents) → getD (s .extents) k 0 ≡ 0) (third : Third s) where
+  pub ranked-sound : ((i k : ℕ) → i < s .head .used → k < slotOf s i .count → Page s (slotOf s i .physical + k) (slotOf s i .logical + k))
+      → ((b : ℕ) → b < s .head .blocks → validOf s b ≡ sum (s .head .used) (pagesIn (s .extents) (s .head .pages) b))
+      → s .head .reserve < s .head .blocks → fillOf s (s .head .reserve) ≡ 0 → sound s ≡ true
+  unfolding sound
+  ranked-sound pages counts kept empty =
+      simp (
+        true-rule1 s (record { few = few; some = r .some; rising = r .rising; high = r .high; zeros = zeros }),
+        true-rule2 s (record { inside = r .inside; apart = r .apart }),
+        true-rule3 s third,
+        each-rule4 s pages,
+        each-rule5 s (λ b h. counts b h ∙ sym (mapped-pages s (r .inside) b)),
+        true-rule6 s kept empty,
+      )
+
 module _ (s : Lent) (z : Shaped s) (f : Sane s) where
-  ranks : Ranked (s .head .pages) (s .head .logical) (s .extents) (s .head .used)
-  ranks = rows-ranked (s .head .pages) (s .head .logical) (s .extents) (s .head .used) (f .rows)
+  pub sane-ranked : Ranked (s .head .pages) (s .head .logical) (s .extents) (s .head .used)
+  sane-ranked = rows-ranked (s .head .pages) (s .head .logical) (s .extents) (s .head .used) (f .rows)
 
   pub sane-page : (i k : ℕ) → i < s .head .used → k < slotOf s i .count → Page s (slotOf s i .physical + k) (slotOf s i .logical + k)
   sane-page i k h t =
       let p = slotOf s i .physical in
       let n = s .head .pages in
-      let g : p % n + k < n = omega (arith, ranks .inside i h) in
+      let g : p % n + k < n = omega (arith, sane-ranked .inside i h) in
       let e = div-shift n p k g in
       record {
         inside = div-lt-iff-lt-mul {k = n} {x = p + k} {y = s .head .blocks} (some-pages (z .sizes)) .0 (omega (arith, f .inside i h));
@@ -337,13 +274,6 @@ module _ (s : Lent) (z : Shaped s) (f : Sane s) where
       }
 
   pub sane-sound : sound s ≡ true
-  unfolding sound
   sane-sound =
-      simp (
-        true-rule1 s (record { few = f .few; some = ranks .some; rising = ranks .rising; high = ranks .high; zeros = f .zeros }),
-        true-rule2 s (record { inside = ranks .inside; apart = ranks .apart }),
-        true-rule3 s (record { full = f .full; labels = f .labels; blank = f .blank }),
-        each-rule4 s sane-page,
-        each-rule5 s (λ b h. f .counts b h ∙ sym (mapped-pages s (ranks .inside) b)),
-        true-rule6 s (f .kept) (f .empty),
-      )
+      ranked-sound s (f .few) sane-ranked (f .zeros) (record { full = f .full; labels = f .labels; blank = f .blank })
+      sane-page (f .counts) (f .kept) (f .empty)

@@ -1,5 +1,5 @@
 -- The tests of `Shape` pass exactly where the sizes and lengths are as document 01 asks; and the bounds that sizes give.
-use Prim.Native.Nat.{ℕ, _+_, _-_, _*_, _≤_, _<_}
+use Prim.Native.Nat.{ℕ, _-_, _*_, _≤_, _<_}
 use mathlib.Core.Bool.{true}
 use mathlib.Core.Path.{_≡_}
 use native.Mathlib.Omega.{arith}
@@ -82,8 +82,8 @@ module _ {b n l m : ℕ} (z : Sizes b n l m) where
   pub pages-high : b * n ≤ 262144
   pages-high = mul-le-mul (z .b-high) (z .n-high)
 
-  pub pages-words : b * n ≤ none
-  pages-words = omega (arith, pages-high)
+  pub pages-fit : b * n ≤ none
+  pages-fit = omega (arith, pages-high)
 
   pub lines-pages : l ≤ b * n
   lines-pages = omega (arith, mul-le-mul-right {m = b - 2} {n = b} n (omega arith))

@@ -1,7 +1,7 @@
 -- How many of the logical pages of a range lie in a block: line by line it is a count, and extent by extent a sum.
 use Prim.Native.Nat.{ℕ, zero, suc, _+_, _-_, _/_, _≤_, _<_, min, max}
 use mathlib.Core.Bool.{Bool, true, false, cond}
-use mathlib.Core.Path.{_≡_, refl, sym, ap, ap₂, _∙_}
+use mathlib.Core.Path.{_≡_, refl, sym, ap, _∙_}
 use mathlib.Core.List.{List, [], _∷_, _++_}
 use mathlib.Core.Logic.{by-cases}
 use native.Mathlib.Omega.{arith}
@@ -13,10 +13,10 @@ use Rattle.rules.specs.Counting.{one, sum, count}
 use Rattle.rules.specs.Extents.{none, end, lookup, slot, slots}
 use Rattle.rules.specs.declared.Extent.{Extent}
 use Rattle.laws.specs.Sums.{sum-same, sum-add, sum-zero, count-sum, count-same, count-none}
-use Rattle.laws.specs.Rows.{Row, Rows, lookup-before, lookup-in, lookup-after, lookup-low, div-shift}
+use Rattle.laws.specs.Rows.{Rows, lookup-before, lookup-in, lookup-after, lookup-low, div-shift}
 use Rattle.laws.specs.Slots.{slots-more}
 use Rattle.laws.specs.Sane.{pagesIn}
-use Rattle.laws.specs.Sanes.{rows-slot}
+use Rattle.laws.specs.Ranked.{rows-slot}
 
 -- ---- an extent and a range
 
