@@ -1,4 +1,6 @@
 pub mod Says
+pub mod Scans
 pub mod Shaped
 pub mod Slot
+pub mod Walk
 pub mod Block

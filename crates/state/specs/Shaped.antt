@@ -13,9 +13,8 @@ use Rattle.laws.specs.Sane.{Sizes}
 use Rattle.laws.specs.Shapes.{sizes-true, true-sizes}
 use Rattle.state.specs.Says.{is-no}
 
--- two words' product fits a usize
-pub product : (b n : ℕ) → b ≤ 4294967295 → n ≤ 4294967295 → b * n ≤ 18446744065119617025
-product b n p q = mul-le-mul p q
+pub product : (a b c d : ℕ) → a ≤ c → b ≤ d → a * b ≤ c * d
+product a b c d p q = mul-le-mul p q
 
 pub sizes-no : (b n l m : ℕ) → (Sizes b n l m → ⊥) → false ≡ sizes b n l m
 sizes-no b n l m = is-no (sizes b n l m) (sizes-true b n l m)
@@ -42,3 +41,13 @@ module _ (b n m ext blk spare : ℕ) where
   pub lengths-yes : Lengths b n m ext blk spare → true ≡ lengths b n m ext blk spare
   unfolding lengths
   lengths-yes s = sym (and-join _ _ (and-join _ _ (eq-eqb _ _ (s .extents)) (eq-eqb _ _ (s .blocks))) (eq-eqb _ _ (s .spares)))
+
+-- the lengths count only where the sizes are right
+pub shape-no : (h : Head) (ext blk spare : ℕ) → sizes (h .blocks) (h .pages) (h .logical) (h .slots) ≡ false → false ≡ shape h ext blk spare
+unfolding shape
+shape-no h ext blk spare e = rw e
+
+pub shape-yes : (h : Head) (ext blk spare : ℕ) → sizes (h .blocks) (h .pages) (h .logical) (h .slots) ≡ true
+    → lengths (h .blocks) (h .pages) (h .slots) ext blk spare ≡ shape h ext blk spare
+unfolding shape
+shape-yes h ext blk spare e = rw e

@@ -1,14 +1,19 @@
 -- One slot in use, behind one that ended before logical page lo and physical page q: rules 1 and 2, and rule 4 in its block.
 use Prim.Native.Nat.{ℕ, _+_, _-_, _*_, _/_, _%_, _^_, _≤_, _<_}
+use mathlib.Core.Bool.{Bool}
 use mathlib.Core.Path.{_≡_}
 use mathlib.Core.List.{List}
 use native.Mathlib.Omega.{arith}
 use native.Mathlib.Nat.{div-add-mod'}
-use lib.ListN.{length, getD}
+use lib.Dec.{eqb}
+use lib.ListN.{length, getD, take, drop}
+use Rattle.rules.specs.Counting.{all}
 use Rattle.rules.specs.Blocks.{stride, fillWord}
 use Rattle.rules.specs.Extents.{none, extent}
 use Rattle.laws.specs.Rows.{Row}
 use Rattle.laws.specs.Cells.{block-le}
+use Rattle.state.specs.Says.{Says, says-for}
+use Rattle.state.specs.Scans.{part-mid, rise-says}
 
 -- rules 1 and 2: the slot may stand there, and ends at or below L
 pub record Stands (n top lo q l p c : ℕ) : Type 0 where
@@ -33,3 +38,12 @@ pub record Placed (blk spare : List ℕ) (blocks n l p c : ℕ) : Type 0 where
 -- its pages lie in the spare area
 pub placed-ends : {blk spare : List ℕ} {blocks n l p c : ℕ} → Placed blk spare blocks n l p c → p / n < blocks → p + c ≤ length spare
 placed-ends {blk} {spare} {blocks} {n} {l} {p} {c} h s = omega (arith, div-add-mod' p n, block-le n (p / n) blocks s)
+
+-- a scan of the labels decides, where block and fill are right
+pub home-says : {blk spare : List ℕ} {blocks n l p c : ℕ} (r : Bool) (e : ℕ) → Placed blk spare blocks n l p c
+    → p / n < blocks → p % n + c ≤ fillWord blk (p / n) → e ≡ p + c
+    → r ≡ all (length (take (e - p) (drop p spare))) (λ k. eqb (getD (take (e - p) (drop p spare)) k 0) (l + k))
+    → Says r (Home blk spare blocks n l p c)
+home-says {blk} {spare} {blocks} {n} {l} {p} {c} r e h s f t said =
+    says-for (rise-says (part-mid p e c spare t (omega (arith, placed-ends h s))) r l none said)
+    (λ g. record { inside = s; below = f; labelled = g }) (λ g. g .labelled)

@@ -8,6 +8,7 @@ ghost use lib.ListN.{length, getD};
 ghost use Rattle.rules.specs.Shape.{sizes, lengths, shape};
 ghost use Rattle.state.specs.Says.{Says};
 ghost use Rattle.state.specs.Slot.{Stands, Placed, Home};
+ghost use Rattle.state.specs.Walk.{Given, Walked};
 ghost use Rattle.state.specs.Block.{Labels};
 
 // ---- refusal 1
@@ -117,6 +118,34 @@ fn home_ok(blk: &[u32], spare: &[u32], blocks: u32, n: u32, l: u32, p: u32, c: u
     let from = p as usize;
     let to = from + (c as usize);
     words::all_rise(&spare[from..to], l)
+}
+
+// Rules 1, 2 and 4 for the slots in use. Each slot's pages are added to its block's place in the tally.
+fn walk(ext: &[u32], blk: &[u32], spare: &[u32], used: usize, blocks: u32, n: u32, top: u32, tally: &mut [u32]) -> bool
+    requires { ⌜ Given (now ext) (now blk) (now spare) (now tally) used blocks n ⌝ }
+    ensures { λ r. ⌜ Walked r (now (ext .entry)) (now (blk .entry)) (now (spare .entry)) (now (tally .exit)) used blocks n top ⌝ }
+{
+    let mut i: usize = 0;
+    let mut lo: u32 = 0;
+    let mut q: u32 = 4294967295;
+    while i < used {
+        let at = 3 * i;
+        let l = ext[at];
+        let p = ext[at + 1];
+        let c = ext[at + 2];
+        if !row_ok(n, top, lo, q, l, p, c) {
+            return false;
+        }
+        if !home_ok(blk, spare, blocks, n, l, p, c) {
+            return false;
+        }
+        let b = (p / n) as usize;
+        tally[b] = tally[b] + c;
+        lo = l + c;
+        q = p + c;
+        i += 1;
+    }
+    true
 }
 
 // ---- refusal 2, block by block

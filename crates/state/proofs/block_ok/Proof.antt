@@ -1,6 +1,8 @@
--- .
+-- The fill, the labels below it, and then the scan from it on, which decides.
 use native.Mathlib.Omega.{arith}
-use Rattle.state.specs.Says.{says-yes, says-no, told-yes, told-no}
+use lib.ListN.{length, length-take}
+use Rattle.state.specs.Says.{says-no}
+use Rattle.state.specs.Block.{labels-no, labels-says}
 use borrow.Author.Needs.{needs}
 use Rattle.state.proofs.block_ok.Statement.{statement}
 use Rattle.state.proofs.block_ok.Tie as tie
@@ -9,13 +11,13 @@ returns : tie.Need-returns
 returns c = says-no (λ g. omega arith)
 
 slice-aggregate-all-below : tie.Need-slice-aggregate-all-below
-slice-aggregate-all-below c = ?
+slice-aggregate-all-below c = simp length-take (omega arith)
 
 all-below-requires : tie.Need-all-below-requires
 all-below-requires c κs = search needs
 
 returns-2 : tie.Need-returns-2
-returns-2 c = ?
+returns-2 c = let a = c .before .before .before .before .before .args in says-no (labels-no (a .fill) (a .top) (a .part .now) (omega arith) (c .before .all-below .result) (c .before .all-below .ensures) (c .if2 .taken))
 
 mul-all-are : tie.Need-mul-all-are
 mul-all-are c = search needs
@@ -33,7 +35,9 @@ all-are-requires : tie.Need-all-are-requires
 all-are-requires c κs = search needs
 
 returns-3 : tie.Need-returns-3
-returns-3 c = ?
+returns-3 c =
+    let a = c .before .before .before .before .before .before .before .args in
+    labels-says (a .fill) (a .top) (a .part .now) (omega arith) (c .before .before .before .all-below .result) (c .all-are .result) (c .before .before .before .all-below .ensures) (c .before .before .if2 .left) (c .all-are .ensures)
 
 pub block-ok-spec : {M : Type 1} → statement M
 block-ok-spec =

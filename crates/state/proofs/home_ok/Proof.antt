@@ -1,7 +1,8 @@
--- .
+-- The block, the fill, and then the scan of the labels, which decides.
+use mathlib.Core.Path.{refl}
 use native.Mathlib.Omega.{arith}
-use Rattle.state.specs.Says.{says-yes, says-no}
-use Rattle.state.specs.Slot.{placed-ends}
+use Rattle.state.specs.Says.{says-no}
+use Rattle.state.specs.Slot.{placed-ends, home-says}
 use borrow.Author.Needs.{needs}
 use Rattle.state.proofs.home_ok.Statement.{statement}
 use Rattle.state.proofs.home_ok.Tie as tie
@@ -46,7 +47,7 @@ all-rise-requires : tie.Need-all-rise-requires
 all-rise-requires c κs = search needs
 
 returns-3 : tie.Need-returns-3
-returns-3 c = ?
+returns-3 c = home-says (c .all-rise .result) _ (c .before .before .before .before .before .before .before .pre) (omega arith) (omega arith) refl (c .all-rise .ensures)
 
 pub home-ok-spec : {M : Type 1} → statement M
 home-ok-spec =
