@@ -1,135 +1,115 @@
+-- Slot by slot: what is refused refuses all; what is not goes on to the next, its pages in the tally.
+use Prim.Native.Nat.{ℕ, _+_, _-_, _*_, _/_}
+use mathlib.Core.Path.{refl}
+use native.Mathlib.Omega.{arith}
+use borrow.Author.Needs.{needs}
+use lib.ListN.{length, getD}
+use Rattle.state.specs.Says.{told-yes, told-no}
+use Rattle.state.specs.Slot.{Placed}
+use Rattle.state.specs.Walk.{Left, left-start, left-bad, left-step, left-end, walk-no}
 use Rattle.state.proofs.walk.Statement.{statement}
 use Rattle.state.proofs.walk.Tie as tie
-use Rattle.state.proofs.walk.Reads as reads
-use Rattle.state.proofs.walk.Lts as lts
-use Rattle.state.proofs.home_ok.Reads as home-ok-reads
-use Rattle.state.proofs.row_ok.Reads as row-ok-reads
 
 abbrev Inv-loop : tie.InvT-loop
-Inv-loop ext blk spare used blocks n top tally₀ i₀ lo₀ q₀ tally i lo q = ?
+Inv-loop ext blk spare used blocks n top tally₀ i₀ lo₀ q₀ tally i lo q = Left ext blk spare tally used blocks n top i lo q
 
 abbrev μ-loop : tie.MeasureT-loop
-μ-loop ext blk spare used blocks n top tally₀ i₀ lo₀ q₀ tally i lo q = ?
+μ-loop ext blk spare used blocks n top tally₀ i₀ lo₀ q₀ tally i lo q = used - i
 
--- src/lib.rt:131:5
 loop-holds : tie.Need-loop-holds Inv-loop μ-loop
-loop-holds c = ?
+loop-holds c = left-start _ (c .before .before .before .before .pre)
 
--- src/lib.rt:132:18
 mul-at : tie.Need-mul-at Inv-loop μ-loop
-mul-at c = ?
+mul-at c = search needs
 
--- src/lib.rt:133:17
 mul-l : tie.Need-mul-l Inv-loop μ-loop
-mul-l c = ?
+mul-l c = search needs
 
--- src/lib.rt:133:17
 shared-slice-read-l : tie.Need-shared-slice-read-l Inv-loop μ-loop
-shared-slice-read-l c = ?
+shared-slice-read-l c = search needs
 
--- src/lib.rt:134:21
 add-p : tie.Need-add-p Inv-loop μ-loop
-add-p c = ?
+add-p c = search needs
 
--- src/lib.rt:134:17
 mul-p : tie.Need-mul-p Inv-loop μ-loop
-mul-p c = ?
+mul-p c = search needs
 
--- src/lib.rt:134:17
 shared-slice-read-p : tie.Need-shared-slice-read-p Inv-loop μ-loop
-shared-slice-read-p c = ?
+shared-slice-read-p c = search needs
 
--- src/lib.rt:135:21
 add-c : tie.Need-add-c Inv-loop μ-loop
-add-c c = ?
+add-c c = search needs
 
--- src/lib.rt:135:17
 mul-c : tie.Need-mul-c Inv-loop μ-loop
-mul-c c = ?
+mul-c c = search needs
 
--- src/lib.rt:135:17
 shared-slice-read-c : tie.Need-shared-slice-read-c Inv-loop μ-loop
-shared-slice-read-c c = ?
+shared-slice-read-c c = search needs
 
--- src/lib.rt:136:13
 row-ok-requires : tie.Need-row-ok-requires Inv-loop μ-loop
-row-ok-requires c κs = ?
+row-ok-requires c κs = search needs
 
--- src/lib.rt:137:13
 same-length : tie.Need-same-length Inv-loop μ-loop
-same-length c = ?
+same-length c = search needs
 
--- src/lib.rt:137:13
 returns : tie.Need-returns Inv-loop μ-loop
-returns c = ?
+returns c = walk-no (left-bad (c .before .before .before .before .before .before .loop .inv) (search needs) (told-no (c .before .row-ok .result) (c .before .row-ok .ensures) (c .if1 .taken)))
 
--- src/lib.rt:139:13
 home-ok-requires : tie.Need-home-ok-requires Inv-loop μ-loop
-home-ok-requires c κs = ?
+home-ok-requires c κs = let g = told-yes (c .before .row-ok .result) (c .before .row-ok .ensures) (c  .if1 .left) in let s = c .before .before .before .before .before .before .before .before .before .before .before .pre in record { records = s .records; spares = s .spares; some = s .some; fits = g .row .inside; small = g .row .small; ends = omega arith }
 
--- src/lib.rt:140:13
 same-length-2 : tie.Need-same-length-2 Inv-loop μ-loop
-same-length-2 c = ?
+same-length-2 c = search needs
 
--- src/lib.rt:140:13
 returns-2 : tie.Need-returns-2 Inv-loop μ-loop
-returns-2 c = ?
+returns-2 c = walk-no (λ r. told-no (c .before .home-ok .result) (c .before .home-ok .ensures) (c .if2 .taken) (r .homes _ (search needs)))
 
--- src/lib.rt:142:18
 div-b : tie.Need-div-b Inv-loop μ-loop
-div-b c = ?
+div-b c = search needs
 
--- src/lib.rt:142:17
 cast-b : tie.Need-cast-b Inv-loop μ-loop
-cast-b c = ?
+cast-b c = let k = told-yes (c .before .home-ok .result) (c .before .home-ok .ensures) (c .if2 .left) in omega arith
 
--- src/lib.rt:143:20
 mul-tally : tie.Need-mul-tally Inv-loop μ-loop
-mul-tally c = ?
+mul-tally c = let k = told-yes (c .before .home-ok .result) (c .before .home-ok .ensures) (c  .if2 .left) in omega arith
 
--- src/lib.rt:143:20
 slice-read-tally : tie.Need-slice-read-tally Inv-loop μ-loop
-slice-read-tally c = ?
+slice-read-tally c = let k = told-yes (c .before .before .home-ok .result) (c .before .before .home-ok .ensures) (c .before .if2 .left) in omega (arith, c .before .before .before .before .before .before .before .before .before .loop .inv .wide)
 
--- src/lib.rt:143:20
 add-tally : tie.Need-add-tally Inv-loop μ-loop
-add-tally c = ?
+add-tally c =
+    let g = told-yes (c .before .before .before .before .row-ok .result) (c .before .before .before .before .row-ok .ensures) (c .before .before .before .if1 .left) in
+    let k = told-yes (c .before .before .home-ok .result) (c .before .before .home-ok .ensures) (c .before .if2 .left) in
+    let s = c .before .before .before .before .before .before .before .before .before .before .before .before .before .before in
+    let o = c .before .before .before .before .before .before .before .before .before .loop in
+    omega (arith, g .row .inside, s .pre .few, s .pre .pages-high, o .inv .small (getD (s .args .ext .now) (3 * o .i + 1) 0 / s .args .n) (omega arith))
 
--- src/lib.rt:143:9
 mul-tally-2 : tie.Need-mul-tally-2 Inv-loop μ-loop
-mul-tally-2 c = ?
+mul-tally-2 c = let k = told-yes (c .before .before .home-ok .result) (c .before .before .home-ok .ensures) (c .before .if2 .left) in omega arith
 
--- src/lib.rt:143:9
 slice-write-tally : tie.Need-slice-write-tally Inv-loop μ-loop
-slice-write-tally c = ?
+slice-write-tally c = let k = told-yes (c .before .before .home-ok .result) (c .before .before .home-ok .ensures) (c .before .if2 .left) in omega (arith, c .before .before .before .before .before .before .before .before .before .loop .inv .wide)
 
--- src/lib.rt:144:14
 add-lo : tie.Need-add-lo Inv-loop μ-loop
-add-lo c = ?
+add-lo c = let g = told-yes (c .before .before .before .before .row-ok .result) (c .before .before .before .before .row-ok .ensures) (c .before .before .before .if1 .left) in omega arith
 
--- src/lib.rt:145:13
 add-q : tie.Need-add-q Inv-loop μ-loop
-add-q c = ?
+add-q c = let g = told-yes (c .before .before .before .before .row-ok .result) (c .before .before .before .before .row-ok .ensures) (c .before .before .before .if1 .left) in omega arith
 
--- src/lib.rt:146:9
 add-i : tie.Need-add-i Inv-loop μ-loop
-add-i c = ?
+add-i c = search needs
 
--- src/lib.rt:131:5
 loop-less : tie.Need-loop-less Inv-loop μ-loop
-loop-less c = ?
+loop-less c = search needs
 
--- src/lib.rt:131:5
 loop-again : tie.Need-loop-again Inv-loop μ-loop
-loop-again c = ?
+loop-again c = let s = c .before .before .before .before .before .before .before .before .before .before .before .before .before .before .pre in left-step (c .before .before .before .before .before .before .before .before .before .loop .inv) (search needs) (s .blocks-high) (s .pages-high) (told-yes (c .before .before .before .before .row-ok .result) (c .before .before .before .before .row-ok .ensures) (c .before .before .before .if1 .left)) (told-yes (c .before .before .home-ok .result) (c .before .before .home-ok .ensures) (c .before .if2 .left))
 
--- src/lib.rt:124:1
 same-length-3 : tie.Need-same-length-3 Inv-loop μ-loop
-same-length-3 c = ?
+same-length-3 c = search needs
 
--- src/lib.rt:124:1
 returns-3 : tie.Need-returns-3 Inv-loop μ-loop
-returns-3 c = ?
+returns-3 c = left-end (c .before .loop .inv) (search needs)
 
 pub walk-spec : {M : Type 1} → statement M
 walk-spec =
