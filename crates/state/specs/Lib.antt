@@ -4,3 +4,4 @@ pub mod Shaped
 pub mod Slot
 pub mod Walk
 pub mod Block
+pub mod Sound

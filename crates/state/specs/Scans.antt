@@ -47,6 +47,9 @@ module _ {ys ws : List ℕ} {a m : ℕ} (p : Part ys ws a m) where
   word : (k d : ℕ) → k < m → getD ys k 0 ≡ getD ws (a + k) d
   word k d s = p .at k s ∙ word-at ws (a + k) 0 d (omega (arith, p .within))
 
+  pub part-word : (k d : ℕ) → k < m → getD ys k d ≡ getD ws (a + k) d
+  part-word k d s = word-at ys k d 0 (omega (arith, p .long)) ∙ word k d s
+
   says-part : (r : Bool) (t : ℕ → Bool) (P : ℕ → Type 0) → r ≡ all (length ys) t
       → ((k : ℕ) → k < m → t k ≡ true → P k) → ((k : ℕ) → k < m → P k → t k ≡ true) → Says r ((k : ℕ) → k < m → P k)
   says-part r t P e f g =

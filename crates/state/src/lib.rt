@@ -6,10 +6,12 @@ ghost use mathlib.Core.Bool.{true};
 ghost use Prim.Native.Nat.{ℕ, _+_, _-_, _*_, _<_, _≤_};
 ghost use lib.ListN.{length, getD};
 ghost use Rattle.rules.specs.Shape.{sizes, lengths, shape};
+ghost use Rattle.rules.specs.Lent.{lent};
+ghost use Rattle.rules.specs.Sound.{sound};
 ghost use Rattle.state.specs.Says.{Says};
 ghost use Rattle.state.specs.Slot.{Stands, Placed, Home};
 ghost use Rattle.state.specs.Walk.{Given, Walked};
-ghost use Rattle.state.specs.Block.{Labels};
+ghost use Rattle.state.specs.Block.{Labels, Framed, Block};
 
 // ---- refusal 1
 
@@ -162,4 +164,50 @@ fn block_ok(fill: u32, part: &[u32], top: u32) -> bool
         return false;
     }
     words::all_are(&part[f..], 4294967295)
+}
+
+// Rules 3 and 5 for every block.
+fn blocks_ok(blk: &[u32], spare: &[u32], blocks: usize, n: usize, top: u32, tally: &[u32]) -> bool
+    requires { ⌜ Framed (now blk) (now spare) (now tally) blocks n ⌝ }
+    ensures { λ r. ⌜ Says r ((b : ℕ) → b < blocks → Block (now (blk .entry)) (now (spare .entry)) (now (tally .entry)) n top b) ⌝ }
+{
+    let mut b: usize = 0;
+    while b < blocks {
+        let from = b * n;
+        let to = from + n;
+        if !block_ok(words::fill_of(blk, b), &spare[from..to], top) {
+            return false;
+        }
+        if words::valid_of(blk, b) != tally[b] {
+            return false;
+        }
+        b += 1;
+    }
+    true
+}
+
+// ---- refusal 2
+
+pub fn is_sound(h: Head, ext: &[u32], blk: &[u32], spare: &[u32]) -> bool
+    requires { ⌜ shape h (length (now ext)) (length (now blk)) (length (now spare)) ≡ true ⌝ }
+    ensures { λ r. ⌜ r ≡ sound (lent h (now (ext .entry)) (now (blk .entry)) (now (spare .entry))) ⌝ }
+{
+    if h.used > h.slots {
+        return false;
+    }
+    if h.reserve >= h.blocks {
+        return false;
+    }
+    if words::fill_of(blk, h.reserve as usize) != 0 {
+        return false;
+    }
+    let used = h.used as usize;
+    if !words::all_are(&ext[3 * used..], 0) {
+        return false;
+    }
+    let mut tally = [0u32; 1024];
+    if !walk(ext, blk, spare, used, h.blocks, h.pages, h.logical, &mut tally) {
+        return false;
+    }
+    blocks_ok(blk, spare, h.blocks as usize, h.pages as usize, h.logical, &tally)
 }
