@@ -6,12 +6,14 @@ ghost use mathlib.Core.Bool.{true};
 ghost use Prim.Native.Nat.{ℕ, _+_, _-_, _*_, _<_, _≤_};
 ghost use lib.ListN.{length, getD};
 ghost use Rattle.rules.specs.Shape.{sizes, lengths, shape};
+ghost use Rattle.rules.specs.Blocks.{stride};
 ghost use Rattle.rules.specs.Lent.{lent};
 ghost use Rattle.rules.specs.Sound.{sound};
 ghost use Rattle.state.specs.Says.{Says};
 ghost use Rattle.state.specs.Slot.{Stands, Placed, Home};
 ghost use Rattle.state.specs.Walk.{Given, Walked};
 ghost use Rattle.state.specs.Block.{Labels, Framed, Block};
+ghost use Rattle.state.specs.Sound.{Headed};
 
 // ---- refusal 1
 
@@ -188,9 +190,10 @@ fn blocks_ok(blk: &[u32], spare: &[u32], blocks: usize, n: usize, top: u32, tall
 
 // ---- refusal 2
 
-pub fn is_sound(h: Head, ext: &[u32], blk: &[u32], spare: &[u32]) -> bool
-    requires { ⌜ shape h (length (now ext)) (length (now blk)) (length (now spare)) ≡ true ⌝ }
-    ensures { λ r. ⌜ r ≡ sound (lent h (now (ext .entry)) (now (blk .entry)) (now (spare .entry))) ⌝ }
+// What the head says of the words: slots in use at most M, and zeros in the others; a reserve that is there and is empty.
+fn head_ok(h: Head, ext: &[u32], blk: &[u32]) -> bool
+    requires { ⌜ (length (now ext) ≡ 3 * h .slots) × (length (now blk) ≡ stride * h .blocks) ⌝ }
+    ensures { λ r. ⌜ Says r (Headed h (now (ext .entry)) (now (blk .entry))) ⌝ }
 {
     if h.used > h.slots {
         return false;
@@ -201,12 +204,19 @@ pub fn is_sound(h: Head, ext: &[u32], blk: &[u32], spare: &[u32]) -> bool
     if words::fill_of(blk, h.reserve as usize) != 0 {
         return false;
     }
-    let used = h.used as usize;
-    if !words::all_are(&ext[3 * used..], 0) {
+    let from = 3 * (h.used as usize);
+    words::all_are(&ext[from..], 0)
+}
+
+pub fn is_sound(h: Head, ext: &[u32], blk: &[u32], spare: &[u32]) -> bool
+    requires { ⌜ shape h (length (now ext)) (length (now blk)) (length (now spare)) ≡ true ⌝ }
+    ensures { λ r. ⌜ r ≡ sound (lent h (now (ext .entry)) (now (blk .entry)) (now (spare .entry))) ⌝ }
+{
+    if !head_ok(h, ext, blk) {
         return false;
     }
     let mut tally = [0u32; 1024];
-    if !walk(ext, blk, spare, used, h.blocks, h.pages, h.logical, &mut tally) {
+    if !walk(ext, blk, spare, h.used as usize, h.blocks, h.pages, h.logical, &mut tally) {
         return false;
     }
     blocks_ok(blk, spare, h.blocks as usize, h.pages as usize, h.logical, &tally)
