@@ -5,3 +5,4 @@ pub mod Slot
 pub mod Walk
 pub mod Block
 pub mod Sound
+pub mod Totals

@@ -14,6 +14,7 @@ ghost use Rattle.state.specs.Slot.{Stands, Placed, Home};
 ghost use Rattle.state.specs.Walk.{Given, Walked};
 ghost use Rattle.state.specs.Block.{Labels, Framed, Block};
 ghost use Rattle.state.specs.Sound.{Headed};
+ghost use Rattle.state.specs.Totals.{Filled, Totalled, roomLeft};
 
 // ---- refusal 1
 
@@ -220,4 +221,43 @@ pub fn is_sound(h: Head, ext: &[u32], blk: &[u32], spare: &[u32]) -> bool
         return false;
     }
     blocks_ok(blk, spare, h.blocks as usize, h.pages as usize, h.logical, &tally)
+}
+
+// ---- the three counts
+
+pub struct Totals {
+    pub free: u32,
+    pub live: u32,
+    pub stale: u32,
+}
+
+// The pages that block b has left for a write, its fill being f: none in the reserve.
+fn room_of(h: Head, b: usize, f: u32) -> u32
+    requires { ⌜ f ≤ h .pages ⌝ }
+    ensures { λ r. ⌜ r ≡ roomLeft h b f ⌝ }
+{
+    if b == h.reserve as usize {
+        return 0;
+    }
+    h.pages - f
+}
+
+// Free, live and stale, from the block records of a sound state.
+pub fn totals_of(h: Head, blk: &[u32]) -> Totals
+    requires { ⌜ Filled h (now blk) ⌝ }
+    ensures { λ r. ⌜ Totalled h (now (blk .entry)) r ⌝ }
+{
+    let mut free: u32 = 0;
+    let mut live: u32 = 0;
+    let mut stale: u32 = 0;
+    let mut b: usize = 0;
+    while b < h.blocks as usize {
+        let f = words::fill_of(blk, b);
+        let v = words::valid_of(blk, b);
+        free += room_of(h, b, f);
+        live += v;
+        stale += f - v;
+        b += 1;
+    }
+    Totals { free: free, live: live, stale: stale }
 }
