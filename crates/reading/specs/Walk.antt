@@ -29,6 +29,11 @@ pub record Sound (es : List Extent) : Type 0 where
   pub logical : ℕ
   pub rows : Rows pages 0 none logical es
 
+-- it has pages, and their numbers are words
+pub record Piece (x : Extent) : Type 0 where
+  pub some : 0 < x .count
+  pub small : x .physical + x .count ≤ none
+
 -- ---- one extent, where the answer has come to pos
 
 -- where its piece starts
@@ -48,7 +53,7 @@ tells pos e x = cond (ltb pos (end x)) (hole pos (starts pos x) (clipped pos e x
 
 -- ---- holes
 
-hole-append : (a b : ℕ) (xs ys : List Extent) → hole a b (xs ++ ys) ≡ hole a b xs ++ ys
+pub hole-append : (a b : ℕ) (xs ys : List Extent) → hole a b (xs ++ ys) ≡ hole a b xs ++ ys
 unfolding hole
 hole-append a b xs ys = cases (ltb a b) (λ e. rw e) (λ e. rw e)
 
@@ -174,6 +179,9 @@ module _ (ws : List ℕ) (u pos e i : ℕ) (sound : Sound (slots ws 0 u)) (h : i
   ranked : Ranked (sound .pages) (sound .logical) ws u
   ranked = rows-ranked (sound .pages) (sound .logical) ws u (sound .rows)
 
+  pub walk-piece : Piece (slot ws i)
+  walk-piece = record { some = ranked .some i h; small = ranked .small i h }
+
   -- slot i is the first that is left
   pub walk-end : e ≤ starts pos (slot ws i) → between pos e (slots ws i (u - i)) ≡ hole pos e []
   walk-end s =
@@ -196,12 +204,13 @@ walk-over ws u pos e i h =
     let z : u - i ≡ 0 = omega arith in
     ap (λ (m : ℕ). between pos e (slots ws i m)) z ∙ between-none pos e
 
+pub walk-start : (l e : ℕ) (ws : List ℕ) (u : ℕ) → between l e (slots ws 0 u) ≡ between l e (slots ws 0 (u - 0))
+walk-start l e ws u = let z : u ≡ u - 0 = omega arith in ap (λ (m : ℕ). between l e (slots ws 0 m)) z
+
 -- ---- how many pieces it finds: k so far
 
 pub count-start : (l e : ℕ) (ws : List ℕ) (u : ℕ) → length (between l e (slots ws 0 u)) ≡ 0 + length (between l e (slots ws 0 (u - 0)))
-count-start l e ws u =
-    let z : u ≡ u - 0 = omega arith in
-    ap (λ (m : ℕ). length (between l e (slots ws 0 m))) z ∙ omega arith
+count-start l e ws u = ap length (walk-start l e ws u) ∙ omega arith
 
 pub count-more : (ws : List ℕ) (u pos e i k j total : ℕ) → Sound (slots ws 0 u) → i < u → pos ≤ e → starts pos (slot ws i) < e
     → total ≡ k + length (between pos e (slots ws i (u - i))) → j ≡ length (tells pos e (slot ws i))
