@@ -1,2 +1,4 @@
-pub mod Padded
+pub mod Sound
 pub mod Around
+pub mod Padded
+pub mod Clip
