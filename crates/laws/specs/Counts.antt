@@ -72,13 +72,13 @@ tally-le t (e ∷ es) = omega (arith, one-le (t e), tally-le t es)
 
 -- ---- which extents pass
 
-starts-none : (n hi a : ℕ) (es : List Extent) (lo q : ℕ) → Rows n lo q hi es → a ≤ lo → startsBefore a es ≡ 0
+pub starts-none : (n hi a : ℕ) (es : List Extent) (lo q : ℕ) → Rows n lo q hi es → a ≤ lo → startsBefore a es ≡ 0
 unfolding tally
 starts-none n hi a [] lo q h s = refl
 starts-none n hi a (e ∷ es) lo q h s =
     omega (arith, ap one (le-ltb (e .logical) a (omega arith)), starts-none n hi a es _ _ (h .1) (omega arith))
 
-ends-all : (n hi b : ℕ) (es : List Extent) (lo q : ℕ) → Rows n lo q hi es → b ≤ lo → endsAfter b es ≡ length es
+pub ends-all : (n hi b : ℕ) (es : List Extent) (lo q : ℕ) → Rows n lo q hi es → b ≤ lo → endsAfter b es ≡ length es
 unfolding tally
 ends-all n hi b [] lo q h s = refl
 ends-all n hi b (e ∷ es) lo q h s =

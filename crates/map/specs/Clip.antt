@@ -1,0 +1,142 @@
+-- What a cut leaves of the extents, by slots: those that start before l with the last of them clipped on the right, and those that end
+-- after e begins with the first of them clipped on the left.
+use Prim.Native.Nat.{ℕ, zero, suc, _+_, _-_, _≤_, _<_, min, max}
+use mathlib.Core.Path.{_≡_, refl, sym, ap, ap₂, _∙_}
+use mathlib.Core.List.{List, [], _∷_, _++_}
+use mathlib.Core.Logic.{by-cases}
+use native.Mathlib.Omega.{arith}
+use native.Mathlib.Decide.{decLt}
+use borrow.Author.Tests.{lt-ltb, le-ltb}
+use lib.Dec.{ltb}
+use lib.ListN.{length, getD, take, drop, set, length-set}
+use lib.Seq.{take-set-le, drop-set-lt, drop-set-add, drop-cons, getD-set-same, getD-set-other}
+use Rattle.rules.specs.Counting.{one}
+use Rattle.rules.specs.Extents.{none, extent, end}
+use Rattle.rules.specs.declared.Extent.{Extent}
+use Rattle.laws.specs.Rows.{Rows}
+use Rattle.laws.specs.Sums.{one-le}
+use Rattle.laws.specs.Unique.{extent-path}
+use Rattle.laws.specs.Cut.{below, from, cut, below-none, below-part, below-all, from-none, from-part, from-all}
+use Rattle.laws.specs.Counts.{startsBefore, endsAfter, tally, tally-le, starts-none, ends-all}
+
+-- an extent's part below l
+abbrev pub upTo : ℕ → Extent → Extent
+upTo l x = extent (x .logical) (x .physical) (min (x .count) (l - x .logical))
+
+-- its part from e on
+abbrev pub onFrom : ℕ → Extent → Extent
+onFrom e x = extent (max e (x .logical)) (x .physical + (max e (x .logical) - x .logical)) (end x - max e (x .logical))
+
+abbrev pub blank : Extent
+blank = extent 0 0 0
+
+-- the last of a extents clipped on the right
+unfoldable pub clipRight : ℕ → ℕ → List Extent → List Extent
+clipRight l zero es = es
+clipRight l (suc i) es = set es i (upTo l (getD es i blank))
+
+-- the first from slot z on clipped on the left
+unfoldable pub clipLeft : ℕ → ℕ → List Extent → List Extent
+clipLeft e z es = set es z (onFrom e (getD es z blank))
+
+-- ---- what lies below l: a extents start before it
+
+below-zero : (l : ℕ) (es : List Extent) → 0 ≡ startsBefore l es → below l es ≡ []
+unfolding below tally
+below-zero l [] e = refl
+below-zero l (x ∷ xs) e =
+    by-cases (decLt (x .logical) l)
+    (λ s. absurd (omega (arith, ap one (lt-ltb (x .logical) l s))))
+    (λ s. below-none l x xs (omega arith))
+
+below-last : (n hi l : ℕ) (es : List Extent) (lo q i : ℕ) → Rows n lo q hi es → suc i ≡ startsBefore l es → below l es ≡ take (suc i) (clipRight l (suc i) es)
+unfolding below clipRight tally
+below-last n hi l [] lo q i h e = absurd (omega arith)
+below-last n hi l (x ∷ xs) lo q zero h e =
+    by-cases (decLt (x .logical) l)
+    (λ s. by-cases (decLt l (end x))
+    (λ t. below-part l x xs s t ∙ ap (λ (y : Extent). y ∷ []) (extent-path _ (upTo l x) refl refl (omega arith)))
+    (λ t. below-all l x xs s (omega arith)
+    ∙ ap₂ (λ (y : Extent) (ys : List Extent). y ∷ ys) (extent-path x (upTo l x) refl refl (omega arith))
+    (below-zero l xs (omega (arith, ap one (lt-ltb (x .logical) l s))))))
+    (λ s. absurd (omega (arith, ap one (le-ltb (x .logical) l (omega arith)), starts-none n hi l xs _ _ (h .1) (omega arith))))
+below-last n hi l (x ∷ xs) lo q (suc j) h e =
+    by-cases (decLt (end x) l)
+    (λ s. below-all l x xs (omega arith) (omega arith)
+    ∙ ap (λ (ys : List Extent). x ∷ ys) (below-last n hi l xs _ _ j (h .1) (omega (arith, ap one (lt-ltb (x .logical) l (omega arith))))))
+    (λ s. absurd (omega (arith, one-le (ltb (x .logical) l), starts-none n hi l xs _ _ (h .1) (omega arith))))
+
+pub below-take : (n hi l : ℕ) (es : List Extent) (a : ℕ) → Rows n 0 none hi es → a ≡ startsBefore l es → below l es ≡ take a (clipRight l a es)
+below-take n hi l es zero h e = below-zero l es e
+below-take n hi l es (suc i) h e = below-last n hi l es 0 none i h e
+
+-- ---- what lies from e on: all but z extents end after it begins
+
+from-first : (n hi e : ℕ) (es : List Extent) (lo q z : ℕ) → Rows n lo q hi es → z + endsAfter e es ≡ length es → from e es ≡ drop z (clipLeft e z es)
+unfolding from clipLeft tally
+from-first n hi e [] lo q z h g = let at : z ≡ 0 = omega arith in rw at
+from-first n hi e (x ∷ xs) lo q zero h g =
+    by-cases (decLt e (end x))
+    (λ s. by-cases (decLt (x .logical) e)
+    (λ t. from-part e x xs t s ∙ ap (λ (y : Extent). y ∷ xs) (extent-path _ (onFrom e x) (omega arith) (omega arith) (omega arith)))
+    (λ t. from-all e x xs (omega arith) s ∙ ap (λ (y : Extent). y ∷ xs) (extent-path x (onFrom e x) (omega arith) (omega arith) (omega arith))))
+    (λ s. absurd (omega (arith, ap one (le-ltb e (end x) (omega arith)), tally-le (λ y. ltb e (end y)) xs)))
+from-first n hi e (x ∷ xs) lo q (suc z) h g =
+    by-cases (decLt e (end x))
+    (λ s. absurd (omega (arith, ap one (lt-ltb e (end x) s), ends-all n hi e xs _ _ (h .1) (omega arith))))
+    (λ s. from-none e x xs (omega arith) ∙ from-first n hi e xs _ _ z (h .1) (omega (arith, ap one (le-ltb e (end x) (omega arith)))))
+
+pub from-drop : (n hi e : ℕ) (es : List Extent) (z : ℕ) → Rows n 0 none hi es → z + endsAfter e es ≡ length es → from e es ≡ drop z (clipLeft e z es)
+from-drop n hi e es z h g = from-first n hi e es 0 none z h g
+
+-- ---- the cut
+
+pub clip-right-length : (l a : ℕ) (es : List Extent) → length (clipRight l a es) ≡ length es
+unfolding clipRight
+clip-right-length l zero es = refl
+clip-right-length l (suc i) es = length-set es i (upTo l (getD es i blank))
+
+pub clip-left-length : (e z : ℕ) (es : List Extent) → length (clipLeft e z es) ≡ length es
+unfolding clipLeft
+clip-left-length e z es = length-set es z (onFrom e (getD es z blank))
+
+-- clipped before, the first from slot z on is as it was
+right-at : (l a z : ℕ) (es : List Extent) → a ≤ z → getD (clipRight l a es) z blank ≡ getD es z blank
+unfolding clipRight
+right-at l zero z es h = refl
+right-at l (suc i) z es h = getD-set-other es i z (upTo l (getD es i blank)) blank (omega arith)
+
+right-drop : (l a z : ℕ) (es : List Extent) → a ≤ z → drop z (clipRight l a es) ≡ drop z es
+unfolding clipRight
+right-drop l zero z es h = refl
+right-drop l (suc i) z es h = drop-set-lt z es i (upTo l (getD es i blank)) (omega arith)
+
+set-drop : (z : ℕ) (xs ys : List Extent) (v : Extent) → drop z xs ≡ drop z ys → drop z (set xs z v) ≡ drop z (set ys z v)
+set-drop z xs ys v h =
+    let e : z ≡ z + 0 = omega arith in
+    ap (λ (k : ℕ). drop z (set xs k v)) e ∙ drop-set-add z xs 0 v ∙ ap (λ (r : List Extent). set r 0 v) h
+    ∙ sym (ap (λ (k : ℕ). drop z (set ys k v)) e ∙ drop-set-add z ys 0 v)
+
+module _ (n hi l e : ℕ) (es : List Extent) (a z : ℕ) (h : Rows n 0 none hi es) (before : a ≡ startsBefore l es) (after : z + endsAfter e es ≡ length es) where
+  -- each side has its own extents
+  pub cut-apart : a ≤ z → take a (clipLeft e z (clipRight l a es)) ++ drop z (clipLeft e z (clipRight l a es)) ≡ cut l e es
+  unfolding cut clipLeft
+  cut-apart s =
+      let x = onFrom e (getD (clipRight l a es) z blank) in
+      sym (ap₂ (λ (xs ys : List Extent). xs ++ ys)
+      (below-take n hi l es a h before ∙ sym (take-set-le a (clipRight l a es) z x s))
+      (from-drop n hi e es z h after ∙ ap (λ (y : Extent). drop z (set es z (onFrom e y))) (sym (right-at l a z es s))
+      ∙ set-drop z es (clipRight l a es) x (sym (right-drop l a z es s))))
+
+  -- one extent lies on both sides
+  pub cut-split : a ≡ z + 1 → (take (z + 1) (set es z (upTo l (getD es z blank)))) ++ onFrom e (getD es z blank) ∷ drop (z + 1) es ≡ cut l e es
+  unfolding cut clipLeft clipRight
+  cut-split s =
+      let x = getD es z blank in
+      let one : a ≡ suc z = omega arith in
+      let size = tally-le (λ y. ltb (y .logical) l) es in
+      sym (ap₂ (λ (xs ys : List Extent). xs ++ ys)
+      (below-take n hi l es (suc z) h (sym one ∙ before) ∙ ap (λ (k : ℕ). take k (set es z (upTo l x))) (sym one ∙ s))
+      (from-drop n hi e es z h after ∙ drop-cons (set es z (onFrom e x)) z blank (omega (arith, length-set es z (onFrom e x)))
+      ∙ ap₂ (λ (y : Extent) (ys : List Extent). y ∷ ys) (getD-set-same es z (onFrom e x) blank (omega arith))
+      (drop-set-lt (suc z) es z (onFrom e x) (omega arith) ∙ ap (λ (k : ℕ). drop k es) (sym one ∙ s))))

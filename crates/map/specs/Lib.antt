@@ -1,0 +1,4 @@
+pub mod Sound
+pub mod Around
+pub mod Padded
+pub mod Clip

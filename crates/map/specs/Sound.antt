@@ -1,0 +1,28 @@
+-- Extents that keep rules 1 and 2, as a contract asks for them: for some N and L, which the code does not need.
+use Prim.Native.Nat.{ℕ, _+_, _≤_, _<_}
+use mathlib.Core.Path.{_≡_}
+use mathlib.Core.List.{List}
+use Rattle.rules.specs.Extents.{none, end, slot, slots}
+use Rattle.rules.specs.declared.Extent.{Extent}
+use Rattle.laws.specs.Rows.{Rows}
+use Rattle.laws.specs.Ranked.{Ranked, rows-ranked}
+
+pub record Sound (es : List Extent) : Type 0 where
+  pub pages : ℕ
+  pub logical : ℕ
+  pub rows : Rows pages 0 none logical es
+
+-- an extent has pages, and their numbers are words
+pub record Piece (x : Extent) : Type 0 where
+  pub some : 0 < x .count
+  pub small : x .physical + x .count ≤ none
+
+module _ (ws : List ℕ) (u : ℕ) (s : Sound (slots ws 0 u)) where
+  ranked : Ranked (s .pages) (s .logical) ws u
+  ranked = rows-ranked (s .pages) (s .logical) ws u (s .rows)
+
+  pub sound-piece : (i : ℕ) → i < u → Piece (slot ws i)
+  sound-piece i h = record { some = ranked .some i h; small = ranked .small i h }
+
+  pub sound-rises : (i j : ℕ) → j ≡ i + 1 → j < u → end (slot ws i) ≤ slot ws j .logical
+  sound-rises i j e h = let at : j ≡ Prim.Native.Nat.suc i = omega native.Mathlib.Omega.arith in ranked .rising i j at h

@@ -1,0 +1,65 @@
+// The extents of a state, three words a slot and zeros behind them: where a range meets them, what a cut and a write make of them, and
+// what the blocks lose by it. What stands in the slots in use is sound where a contract asks for rows; every function leaves it so.
+ghost use mathlib.Core.Path.{_≡_};
+ghost use Prim.Native.Nat.{_+_, _-_, _*_, _<_, _≤_, _^_};
+ghost use lib.ListN.{length};
+ghost use Rattle.rules.specs.Extents.{extent, end, slot, slots};
+ghost use Rattle.laws.specs.Counts.{startsBefore, endsAfter};
+ghost use Rattle.map.specs.Around.{joinsBefore};
+
+// Where slot i ends, as a whole number.
+pub fn end_of(ext: &[u32], i: usize) -> u64
+    requires { ⌜ 3 * i + 2 < length (now ext) ⌝ }
+    ensures { λ r. ⌜ (r ≡ end (slot (now (ext .entry)) i)) × (r < 2 ^ 33) ⌝ }
+{
+    let at = 3 * i;
+    (ext[at] as u64) + (ext[at + 2] as u64)
+}
+
+// ---- where a range meets the extents
+
+pub struct Sides {
+    pub before: usize,
+    pub after: usize,
+}
+
+// How many of the extents in use start before l, and how many end after e begins.
+pub fn around(ext: &[u32], used: usize, l: u32, e: u32) -> Sides
+    requires { ⌜ 3 * used ≤ length (now ext) ⌝ }
+    ensures { λ r. ⌜ (r .before ≡ startsBefore l (slots (now (ext .entry)) 0 used)) × (r .after ≡ endsAfter e (slots (now (ext .entry)) 0 used)) ⌝ }
+{
+    let mut before: usize = 0;
+    let mut after: usize = 0;
+    let mut i: usize = 0;
+    while i < used {
+        let at = 3 * i;
+        if ext[at] < l {
+            before += 1;
+        }
+        if (e as u64) < end_of(ext, i) {
+            after += 1;
+        }
+        i += 1;
+    }
+    Sides { before: before, after: after }
+}
+
+// The last extent before slot `before` goes on with logical page l on page p.
+pub fn joins_left(ext: &[u32], before: usize, pages: u32, l: u32, p: u32) -> bool
+    requires { ⌜ (3 * before ≤ length (now ext)) × (0 < pages) ⌝ }
+    ensures { λ r. ⌜ r ≡ joinsBefore pages (extent l p 1) before (now (ext .entry)) ⌝ }
+{
+    if before < 1 {
+        return false;
+    }
+    let i = before - 1;
+    if (l as u64) != end_of(ext, i) {
+        return false;
+    }
+    let at = 3 * i;
+    let q = ext[at + 1];
+    if (p as u64) != (q as u64) + (ext[at + 2] as u64) {
+        return false;
+    }
+    q / pages == p / pages
+}

@@ -1,0 +1,98 @@
+use Rattle.reading.specs.Walk.{count-end, hole-le}
+-- The walk: what is counted and what is still to come are the whole.
+use Prim.Native.Nat.{_+_, _-_, _*_, _≤_}
+use mathlib.Core.Path.{_≡_, refl, ap}
+use lib.ListN.{length}
+use Rattle.rules.specs.Extents.{slots, slot}
+use Rattle.reading.specs.Walk.{between, reaches, tells-le, count-start, count-more, walk-end, walk-over}
+use borrow.Author.Needs.{needs}
+use native.Mathlib.Omega.{arith}
+use Rattle.reading.proofs.count_found.Statement.{statement}
+use Rattle.reading.proofs.count_found.Tie as tie
+
+abbrev Inv-loop : tie.InvT-loop
+Inv-loop ext used l e count₀ pos₀ i₀ count pos i = (i ≤ used) × (pos ≤ e) × (count ≤ 2 * i) × (length (between l e (slots ext 0 used)) ≡ count + length (between pos e (slots ext i (used - i))))
+
+abbrev μ-loop : tie.MeasureT-loop
+μ-loop ext used l e count₀ pos₀ i₀ count pos i = used - i
+
+loop-holds : tie.Need-loop-holds Inv-loop μ-loop
+loop-holds c = (search needs, search needs, search needs, count-start _ _ _ _)
+
+start-of-requires : tie.Need-start-of-requires Inv-loop μ-loop
+start-of-requires c κs = search needs
+
+last-hole-requires : tie.Need-last-hole-requires Inv-loop μ-loop
+last-hole-requires c κs = search needs
+
+add-result : tie.Need-add-result Inv-loop μ-loop
+add-result c = omega (arith, hole-le (c .before .before .before .before .loop .pos) (c .before .before .before .before .before .before .args .e))
+
+returns : tie.Need-returns Inv-loop μ-loop
+returns c =
+    let a = c .before .before .before .before .before .before .args in
+    let o = c .before .before .before .before .loop in
+    count-end (a .ext .now) (a .used) (o .pos) (a .e) (o .i) (o .count) _ _
+    (walk-end (a .ext .now) (a .used) (o .pos) (a .e) (o .i) (c .before .before .before .before .before .before .pre .2) (omega arith) (omega arith) (omega arith))
+    (o .inv .3) (c .last-hole .ensures)
+
+pieces-of-requires : tie.Need-pieces-of-requires Inv-loop μ-loop
+pieces-of-requires c κs = search needs
+
+add-count : tie.Need-add-count Inv-loop μ-loop
+add-count c = omega (arith, tells-le (c .before .before .before .before .loop .pos) (c .before .before .before .before .before .before .args .e) (slot (c .before .before .before .before .before .before .args .ext .now) (c .before .before .before .before .loop .i)))
+
+reach-of-requires : tie.Need-reach-of-requires Inv-loop μ-loop
+reach-of-requires c κs = search needs
+
+add-i : tie.Need-add-i Inv-loop μ-loop
+add-i c = search needs
+
+loop-less : tie.Need-loop-less Inv-loop μ-loop
+loop-less c = search needs
+
+loop-again : tie.Need-loop-again Inv-loop μ-loop
+loop-again c =
+    let s = c .before .before .before .before .before .before .before in
+    let a = s .args in
+    let o = c .before .before .before .before .before .loop in
+    let t = tells-le (o .pos) (a .e) (slot (a .ext .now) (o .i)) in
+    let r : c .reach-of .result ≡ reaches (o .pos) (a .e) (slot (a .ext .now) (o .i)) = c .reach-of .ensures in (
+      search needs,
+      omega arith,
+      omega (arith, c .before .pieces-of .ensures),
+      rw r (count-more (a .ext .now) (a .used) (o .pos) (a .e) (o .i) (o .count) _ _ (s .pre .2) (omega arith) (omega arith) (omega arith) (o .inv .3) (c .before .pieces-of .ensures)),
+    )
+
+last-hole-requires-2 : tie.Need-last-hole-requires-2 Inv-loop μ-loop
+last-hole-requires-2 c κs = search needs
+
+add-result-2 : tie.Need-add-result-2 Inv-loop μ-loop
+add-result-2 c = omega (arith, hole-le (c .before .before .loop .pos) (c .before .before .before .before .args .e))
+
+returns-2 : tie.Need-returns-2 Inv-loop μ-loop
+returns-2 c =
+    let a = c .before .before .before .before .args in
+    let o = c .before .before .loop in
+    count-end (a .ext .now) (a .used) (o .pos) (a .e) (o .i) (o .count) _ _ (walk-over (a .ext .now) (a .used) (o .pos) (a .e) (o .i) (omega arith)) (o .inv .3) (c .last-hole2 .ensures)
+
+pub count-found-spec : {M : Type 1} → statement M
+count-found-spec =
+    tie.close
+    (tie.spec
+    Inv-loop
+    μ-loop
+    loop-holds
+    start-of-requires
+    last-hole-requires
+    add-result
+    returns
+    pieces-of-requires
+    add-count
+    reach-of-requires
+    add-i
+    loop-less
+    loop-again
+    last-hole-requires-2
+    add-result-2
+    returns-2)
