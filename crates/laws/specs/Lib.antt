@@ -28,3 +28,4 @@ pub mod History
 pub mod Sane
 pub mod Host
 pub mod Until
+pub mod Spread

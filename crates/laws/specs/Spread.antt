@@ -1,0 +1,343 @@
+-- Placement block by block: each block in turn takes what it has room for, and this gives what 01's page by page gives.
+-- Placement reads the fills, the reserve and N, and nothing else.
+use Prim.Native.Nat.{ℕ, zero, suc, _+_, _-_, _*_, _/_, _≤_, _<_, min}
+use mathlib.Core.Path.{_≡_, refl, sym, ap, ap₂, _∙_, subst}
+use mathlib.Core.List.{List, [], _∷_}
+use mathlib.Core.Bool.{Bool, true, false, not, cond, _&&_}
+use mathlib.Core.Logic.{by-cases}
+use native.Mathlib.Omega.{arith}
+use native.Mathlib.Numerals.{add-one}
+use native.Mathlib.Decide.{decLt, ℕ-discrete}
+use borrow.Author.Tests.{eq-eqb, ne-eqb}
+use lib.Arith.{digits-lt, digits-div}
+use lib.Dec.{eqb, ltb}
+use lib.ListN.{length, getD, set, replicate, length-set, length-replicate}
+use lib.Seq.{sets, getD-set-same, getD-set-other, set-set, set-comm}
+use Rattle.rules.specs.Counting.{one, count, tabulate, first}
+use Rattle.rules.specs.Extents.{none, extent, joinable, join, runs}
+use Rattle.rules.specs.Device.{Device, blocks, lines, at, fill, room, free, valid, mapped}
+use Rattle.rules.specs.Placement.{putAt, putsAt, placesAt, target, targets, puts, places, pieces}
+use Rattle.rules.specs.Number.{withTable, trimmed}
+use Rattle.rules.specs.declared.Extent.{Extent}
+use Rattle.laws.specs.Bools.{cases, never}
+use Rattle.laws.specs.Sums.{sum-change, count-same, count-none, count-first}
+use Rattle.laws.specs.Runs.{Joined, joinable-true, joined-true, join-joined, join-apart, runs-page}
+use Rattle.laws.specs.Device.{Sound, none-block}
+use Rattle.laws.specs.Balance.{room-other}
+use Rattle.laws.specs.Lines.{trimmed-sound, trimmed-in, fewer-free}
+use Rattle.laws.specs.Placed.{Open, Opens, target-open, target-lowest, puts-table, puts-pages, length-targets, targets-open}
+use Rattle.laws.specs.Valid.{puts-valid}
+
+-- ---- what a block takes
+
+-- the room of block b, whose fill is f
+unfoldable pub roomAt : ℕ → ℕ → ℕ → ℕ → ℕ
+roomAt n reserve b f = cond (eqb b reserve) 0 (n - f)
+
+unfoldable pub taken : ℕ → ℕ → ℕ → ℕ → ℕ → ℕ
+taken n reserve b f want = min (roomAt n reserve b f) want
+
+-- an extent in front of others; of no pages it is none
+unfoldable pub listed : Extent → List Extent → List Extent
+listed e es = cond (eqb (e .count) 0) es (e ∷ es)
+
+-- the pieces of `want` pages for lines l, l + 1, .., over blocks b, b + 1, .., whose fills are given
+unfoldable pub spread : ℕ → ℕ → List ℕ → ℕ → ℕ → ℕ → List Extent
+spread n reserve [] b l want = []
+spread n reserve (f ∷ fs) b l want =
+    let m = taken n reserve b f want in
+    listed (extent l (b * n + f) m) (spread n reserve fs (b + 1) (l + m) (want - m))
+
+-- and the fills with what each block takes
+unfoldable pub filled : ℕ → ℕ → List ℕ → ℕ → ℕ → List ℕ
+filled n reserve [] b want = []
+filled n reserve (f ∷ fs) b want =
+    let m = taken n reserve b f want in
+    (f + m) ∷ filled n reserve fs (b + 1) (want - m)
+
+-- the labels of pieces, stored piece by piece
+unfoldable pub labelled : List Extent → List ℕ → List ℕ
+labelled [] s = s
+labelled (e ∷ es) s = labelled es (sets s (e .physical) (tabulate (e .count) (λ i. e .logical + i)))
+
+pub listed-none : (e : Extent) (es : List Extent) → e .count ≡ 0 → listed e es ≡ es
+unfolding listed
+listed-none e es h = rw (eq-eqb (e .count) 0 h)
+
+pub listed-some : (e : Extent) (es : List Extent) → 0 < e .count → listed e es ≡ e ∷ es
+unfolding listed
+listed-some e es h = rw (ne-eqb (e .count) 0 (omega arith))
+
+pub taken-le : (n reserve b f want : ℕ) → taken n reserve b f want ≤ want
+unfolding taken
+taken-le n reserve b f want = omega arith
+
+pub room-le : (n reserve b f : ℕ) → roomAt n reserve b f ≤ n - f
+unfolding roomAt
+room-le n reserve b f = cases (eqb b reserve) (λ e. rw e (omega arith)) (λ e. rw e (omega arith))
+
+-- a block that takes pages has room for them
+pub taken-room : (n reserve b f want : ℕ) → 0 < taken n reserve b f want → f + taken n reserve b f want ≤ n
+unfolding taken
+taken-room n reserve b f want h = omega (arith, room-le n reserve b f)
+
+module _ (n reserve f : ℕ) (fs : List ℕ) (b l want : ℕ) where
+  pub spread-skip : taken n reserve b f want ≡ 0 → spread n reserve (f ∷ fs) b l want ≡ spread n reserve fs (b + 1) l want
+  unfolding spread
+  spread-skip e =
+      let m = taken n reserve b f want in
+      let p : l + m ≡ l = omega arith in
+      let q : want - m ≡ want = omega arith in
+      listed-none (extent l (b * n + f) m) (spread n reserve fs (b + 1) (l + m) (want - m)) e
+      ∙ ap₂ (λ (x y : ℕ). spread n reserve fs (b + 1) x y) p q
+
+  pub spread-some : 0 < taken n reserve b f want → spread n reserve (f ∷ fs) b l want ≡ extent l (b * n + f) (taken n reserve b f want) ∷ spread n reserve fs (b + 1) (l + taken n reserve b f want) (want - taken n reserve b f want)
+  unfolding spread
+  spread-some h =
+      let m = taken n reserve b f want in
+      listed-some (extent l (b * n + f) m) (spread n reserve fs (b + 1) (l + m) (want - m)) h
+
+-- ---- one page
+
+-- pieces from block b on join with nothing in a block before it
+spread-apart : (n reserve : ℕ) (fs : List ℕ) (b l want : ℕ) (a : Extent) → a .physical / n < b → join n a (spread n reserve fs b l want) ≡ a ∷ spread n reserve fs b l want
+unfolding join spread
+spread-apart n reserve [] b l want a h = refl
+spread-apart n reserve (f ∷ fs) b l want a h =
+    let m = taken n reserve b f want in
+    by-cases (decLt 0 m)
+    (λ s. rw (spread-some n reserve f fs b l want s) (join-apart n a (extent l (b * n + f) m) (spread n reserve fs (b + 1) (l + m) (want - m))
+    (never (joinable n a (extent l (b * n + f) m)) (λ e.
+        omega (arith, joinable-true n a (extent l (b * n + f) m) e .block, digits-div b {m = n} {r = f} (omega (arith, taken-room n reserve b f want s)))))))
+    (λ s. rw (spread-skip n reserve f fs b l want (omega arith)) (spread-apart n reserve fs (b + 1) l want a (omega arith)))
+
+-- a page less of room
+room-suc : (n reserve b f : ℕ) → 0 < roomAt n reserve b f → roomAt n reserve b (suc f) + 1 ≡ roomAt n reserve b f
+unfolding roomAt
+room-suc n reserve b f =
+    cases {C = 0 < roomAt n reserve b f → roomAt n reserve b (suc f) + 1 ≡ roomAt n reserve b f} (eqb b reserve)
+    (λ e. rw e (λ h. absurd (omega arith)))
+    (λ e. rw e (λ h. omega arith))
+
+taken-suc : (n reserve b f w : ℕ) → 0 < roomAt n reserve b f → taken n reserve b f (suc w) ≡ suc (taken n reserve b (suc f) w)
+unfolding taken
+taken-suc n reserve b f w h = omega (arith, room-suc n reserve b f h)
+
+-- the blocks before the k-th have no room, and the k-th has: it takes the first page
+pub record Leads (n reserve : ℕ) (fs : List ℕ) (b k : ℕ) : Type 0 where
+  pub inside : k < length fs
+  pub before : (j : ℕ) → j < k → roomAt n reserve (b + j) (getD fs j 0) ≡ 0
+  pub some : 0 < roomAt n reserve (b + k) (getD fs k 0)
+
+leads-here : (n reserve f : ℕ) (fs : List ℕ) (b : ℕ) → Leads n reserve (f ∷ fs) b 0 → 0 < roomAt n reserve b f
+leads-here n reserve f fs b v = let e : b + 0 ≡ b = omega arith in omega (arith, v .some, ap (λ (x : ℕ). roomAt n reserve x f) e)
+
+leads-skip : (n reserve f : ℕ) (fs : List ℕ) (b k want : ℕ) → Leads n reserve (f ∷ fs) b (suc k) → taken n reserve b f want ≡ 0
+unfolding taken
+leads-skip n reserve f fs b k want v =
+    let e : b + 0 ≡ b = omega arith in omega (arith, v .before 0 (omega arith), ap (λ (x : ℕ). roomAt n reserve x f) e)
+
+leads-next : (n reserve f : ℕ) (fs : List ℕ) (b k : ℕ) → Leads n reserve (f ∷ fs) b (suc k) → Leads n reserve fs (b + 1) k
+leads-next n reserve f fs b k v = record {
+  inside = omega (arith, v .inside);
+  before = λ j h. let e : b + 1 + j ≡ b + suc j = omega arith in
+      ap (λ (x : ℕ). roomAt n reserve x (getD fs j 0)) e ∙ v .before (suc j) (omega arith);
+  some = let e : b + 1 + k ≡ b + suc k = omega arith in
+      omega (arith, v .some, ap (λ (x : ℕ). roomAt n reserve x (getD fs k 0)) e);
+}
+
+step-here : (n reserve f : ℕ) (fs : List ℕ) (b l w : ℕ) → 0 < roomAt n reserve b f
+    → spread n reserve (f ∷ fs) b l (suc w) ≡ join n (extent l (b * n + f) 1) (spread n reserve (suc f ∷ fs) b (suc l) w)
+step-here n reserve f fs b l w h =
+    let m = taken n reserve b f (suc w) in
+    let m′ = taken n reserve b (suc f) w in
+    let e = taken-suc n reserve b f w h in
+    let page = extent l (b * n + f) 1 in
+    let home = digits-div b {m = n} {r = f} (omega (arith, room-le n reserve b f)) in
+    spread-some n reserve f fs b l (suc w) (omega arith)
+    ∙ by-cases (decLt 0 m′)
+    (λ s. let next = extent (suc l) (b * n + suc f) m′ in
+    let j : Joined n page next = record {
+      block = home ∙ sym (digits-div b {m = n} {r = suc f} (omega (arith, taken-room n reserve b (suc f) w s)));
+      logical = omega arith;
+      physical = omega arith;
+    } in
+    let c : m ≡ 1 + m′ = omega arith in
+    let p : l + m ≡ suc l + m′ = omega arith in
+    let q : suc w - m ≡ w - m′ = omega arith in
+    ap₂ (λ (x : Extent) (y : List Extent). x ∷ y) (ap (extent l (b * n + f)) c) (ap₂ (λ (x y : ℕ). spread n reserve fs (b + 1) x y) p q)
+    ∙ sym (ap (join n page) (spread-some n reserve (suc f) fs b (suc l) w s)
+    ∙ join-joined n page next (spread n reserve fs (b + 1) (suc l + m′) (w - m′)) (joined-true n page next j)))
+    (λ s. let c : m ≡ 1 = omega arith in
+    let p : l + m ≡ suc l = omega arith in
+    let q : suc w - m ≡ w = omega arith in
+    ap₂ (λ (x : Extent) (y : List Extent). x ∷ y) (ap (extent l (b * n + f)) c) (ap₂ (λ (x y : ℕ). spread n reserve fs (b + 1) x y) p q)
+    ∙ sym (ap (join n page) (spread-skip n reserve (suc f) fs b (suc l) w (omega arith))
+    ∙ spread-apart n reserve fs (b + 1) (suc l) w page (omega arith)))
+
+spread-step : (n reserve : ℕ) (fs : List ℕ) (b k l w p : ℕ) → Leads n reserve fs b k → p ≡ (b + k) * n + getD fs k 0
+    → spread n reserve fs b l (suc w) ≡ join n (extent l p 1) (spread n reserve (set fs k (suc (getD fs k 0))) b (suc l) w)
+spread-step n reserve [] b k l w p v e = absurd (omega (arith, v .inside))
+spread-step n reserve (f ∷ fs) b zero l w p v e =
+    let z : b + 0 ≡ b = omega arith in
+    let e′ : p ≡ b * n + f = e ∙ ap (λ (x : ℕ). x * n + f) z in
+    rw e′ (step-here n reserve f fs b l w (leads-here n reserve f fs b v))
+spread-step n reserve (f ∷ fs) b (suc k) l w p v e =
+    let z : b + suc k ≡ b + 1 + k = omega arith in
+    let e′ : p ≡ (b + 1 + k) * n + getD fs k 0 = e ∙ ap (λ (x : ℕ). x * n + getD fs k 0) z in
+    spread-skip n reserve f fs b l (suc w) (leads-skip n reserve f fs b k (suc w) v)
+    ∙ spread-step n reserve fs (b + 1) k l w p (leads-next n reserve f fs b k v) e′
+    ∙ sym (ap (join n (extent l p 1)) (spread-skip n reserve f (set fs k (suc (getD fs k 0))) b (suc l) w (leads-skip n reserve f fs b k w v)))
+
+-- a block that takes nothing keeps its fill
+filled-skip : (n reserve f : ℕ) (fs : List ℕ) (b want : ℕ) → taken n reserve b f want ≡ 0 → filled n reserve (f ∷ fs) b want ≡ f ∷ filled n reserve fs (b + 1) want
+unfolding filled
+filled-skip n reserve f fs b want e =
+    let m = taken n reserve b f want in
+    let p : f + m ≡ f = omega arith in
+    let q : want - m ≡ want = omega arith in
+    ap₂ (λ (x y : ℕ). x ∷ filled n reserve fs (b + 1) y) p q
+
+filled-step : (n reserve : ℕ) (fs : List ℕ) (b k w : ℕ) → Leads n reserve fs b k → filled n reserve fs b (suc w) ≡ filled n reserve (set fs k (suc (getD fs k 0))) b w
+unfolding filled
+filled-step n reserve [] b k w v = refl
+filled-step n reserve (f ∷ fs) b zero w v =
+    let m = taken n reserve b f (suc w) in
+    let m′ = taken n reserve b (suc f) w in
+    let e = taken-suc n reserve b f w (leads-here n reserve f fs b v) in
+    let p : f + m ≡ suc f + m′ = omega arith in
+    let q : suc w - m ≡ w - m′ = omega arith in
+    ap₂ (λ (x y : ℕ). x ∷ filled n reserve fs (b + 1) y) p q
+filled-step n reserve (f ∷ fs) b (suc k) w v =
+    filled-skip n reserve f fs b (suc w) (leads-skip n reserve f fs b k (suc w) v)
+    ∙ ap (λ (r : List ℕ). f ∷ r) (filled-step n reserve fs (b + 1) k w (leads-next n reserve f fs b k v))
+    ∙ sym (filled-skip n reserve f (set fs k (suc (getD fs k 0))) b w (leads-skip n reserve f fs b k w v))
+
+pub spread-none : (n reserve : ℕ) (fs : List ℕ) (b l : ℕ) → spread n reserve fs b l 0 ≡ []
+unfolding spread
+spread-none n reserve [] b l = refl
+spread-none n reserve (f ∷ fs) b l =
+    spread-skip n reserve f fs b l 0 (omega (arith, taken-le n reserve b f 0)) ∙ spread-none n reserve fs (b + 1) l
+
+pub filled-none : (n reserve : ℕ) (fs : List ℕ) (b : ℕ) → filled n reserve fs b 0 ≡ fs
+unfolding filled
+filled-none n reserve [] b = refl
+filled-none n reserve (f ∷ fs) b =
+    filled-skip n reserve f fs b 0 (omega (arith, taken-le n reserve b f 0)) ∙ ap (λ (r : List ℕ). f ∷ r) (filled-none n reserve fs (b + 1))
+
+-- ---- a device
+
+room-at : (d : Device) (b : ℕ) → roomAt (d .pages) (d .reserve) b (fill d b) ≡ room d b
+unfolding roomAt room
+room-at d b = refl
+
+-- 01's choice of the next block
+target-leads : (d : Device) → 0 < free d → Leads (d .pages) (d .reserve) (d .fills) 0 (target d)
+target-leads d h =
+    let t = target d in
+    let v = target-open d h in
+    let z : 0 + t ≡ t = omega arith in
+    record {
+      inside = v .inside;
+      before = λ j a. let e : 0 + j ≡ j = omega arith in
+          ap (λ (x : ℕ). roomAt (d .pages) (d .reserve) x (fill d j)) e ∙ room-at d j ∙ target-lowest d j a;
+      some = omega (arith, ap (λ (x : ℕ). roomAt (d .pages) (d .reserve) x (fill d t)) z, room-at d t, room-other d t (v .other), v .below);
+    }
+
+-- the page that is taken first, and the device with it taken
+abbrev pub openPage : Device → ℕ
+openPage d = target d * d .pages + fill d (target d)
+
+abbrev pub next : ℕ → Device → Device
+next l d = putAt (target d) l d
+
+next-blocks : (l : ℕ) (d : Device) → blocks (next l d) ≡ blocks d
+unfolding putAt
+next-blocks l d = length-set (d .fills) (target d) (suc (fill d (target d)))
+
+open-free : (d : Device) (b l : ℕ) → Open d b → free (putAt b l d) + 1 ≡ free d
+unfolding free putAt
+open-free d b l v =
+    let e = putAt b l d in
+    let same = getD-set-same (d .fills) b (suc (fill d b)) 0 (v .inside) in
+    let here : room e b + 1 ≡ room d b = omega (arith, room-other e b (v .other), room-other d b (v .other), v .below) in
+    rw (length-set (d .fills) b (suc (fill d b))) (omega (
+      arith,
+      here,
+      sum-change (blocks d) (room e) (room d) b (v .inside) (λ c h f.
+          sym (room-at e c) ∙ ap (roomAt (d .pages) (d .reserve) c) (getD-set-other (d .fills) b c (suc (fill d b)) 0 f) ∙ room-at d c),
+    ))
+
+module _ (d : Device) (words : blocks d * d .pages ≤ none) where
+  page-some : 0 < free d → openPage d ≡ none → ⊥
+  page-some h e =
+      let v = target-open d h in
+      omega (arith, digits-lt {q = target d} {m = blocks d} {r = fill d (target d)} {c = d .pages} (v .inside) (v .below))
+
+  next-words : (l : ℕ) → blocks (next l d) * next l d .pages ≤ none
+  unfolding putAt
+  next-words l = rw (length-set (d .fills) (target d) (suc (fill d (target d)))) words
+
+-- ---- page by page is block by block
+
+pub places-first : (l n : ℕ) (d : Device) → places l (suc n) d ≡ openPage d ∷ places (suc l) n (next l d)
+unfolding places placesAt targets
+places-first l n d = refl
+
+pieces-step : (l n : ℕ) (d : Device) → blocks d * d .pages ≤ none → 0 < free d → pieces l (suc n) d ≡ join (d .pages) (extent l (openPage d) 1) (pieces (suc l) n (next l d))
+unfolding pieces putAt
+pieces-step l n d w h =
+    ap (runs (d .pages) l) (places-first l n d) ∙ runs-page (d .pages) l (openPage d) (places (suc l) n (next l d)) (page-some d w h)
+
+pub spread-pieces : (n l : ℕ) (d : Device) → blocks d * d .pages ≤ none → n ≤ free d → spread (d .pages) (d .reserve) (d .fills) 0 l n ≡ pieces l n d
+unfolding pieces places placesAt targets runs putAt
+spread-pieces zero l d w f = spread-none (d .pages) (d .reserve) (d .fills) 0 l
+spread-pieces (suc n) l d w f =
+    let h : 0 < free d = omega arith in
+    let t = target d in
+    let z : 0 + t ≡ t = omega arith in
+    spread-step (d .pages) (d .reserve) (d .fills) 0 t l n (openPage d) (target-leads d h) (sym (ap (λ (x : ℕ). x * d .pages + fill d t) z))
+    ∙ ap (join (d .pages) (extent l (openPage d) 1)) (spread-pieces n (suc l) (next l d) (next-words d w l) (omega (arith, open-free d t l (target-open d h))))
+    ∙ sym (pieces-step l n d w h)
+
+pub puts-filled : (n l : ℕ) (d : Device) → n ≤ free d → puts l n d .fills ≡ filled (d .pages) (d .reserve) (d .fills) 0 n
+unfolding puts putsAt targets putAt
+puts-filled zero l d f = sym (filled-none (d .pages) (d .reserve) (d .fills) 0)
+puts-filled (suc n) l d f =
+    let h : 0 < free d = omega arith in
+    let t = target d in
+    puts-filled n (suc l) (next l d) (omega (arith, open-free d t l (target-open d h)))
+    ∙ sym (filled-step (d .pages) (d .reserve) (d .fills) 0 t n (target-leads d h))
+
+-- ---- labels
+
+tabulate-each : (n : ℕ) (f g : ℕ → ℕ) → ((i : ℕ) → f i ≡ g i) → tabulate n f ≡ tabulate n g
+unfolding tabulate
+tabulate-each zero f g h = refl
+tabulate-each (suc n) f g h = ap₂ (λ (x : ℕ) (r : List ℕ). x ∷ r) (h 0) (tabulate-each n (λ i. f (suc i)) (λ i. g (suc i)) (λ i. h (suc i)))
+
+labelled-join : (n l p : ℕ) (es : List Extent) (s : List ℕ) → labelled (join n (extent l p 1) es) s ≡ labelled es (set s p l)
+unfolding labelled join tabulate
+labelled-join n l p [] s = let e : l + 0 ≡ l = omega arith in ap (set s p) e
+labelled-join n l p (x ∷ xs) s =
+    let a = extent l p 1 in
+    let e : l + 0 ≡ l = omega arith in
+    cases (joinable n a x)
+    (λ f. let j = joinable-true n a x f in
+    let c : 1 + x .count ≡ suc (x .count) = omega arith in
+    let q : suc p ≡ x .physical = omega (arith, j .physical) in
+    ap (λ (ys : List Extent). labelled ys s) (join-joined n a x xs f)
+    ∙ ap (λ (k : ℕ). labelled xs (sets s p (tabulate k (λ i. l + i)))) c
+    ∙ ap (λ (k : ℕ). labelled xs (sets (set s p k) (suc p) (tabulate (x .count) (λ i. l + suc i)))) e
+    ∙ ap₂ (λ (k : ℕ) (r : List ℕ). labelled xs (sets (set s p l) k r)) q
+    (tabulate-each (x .count) (λ i. l + suc i) (λ i. x .logical + i) (λ i. omega (arith, j .logical))))
+    (λ f. ap (λ (ys : List Extent). labelled ys s) (join-apart n a x xs f) ∙ ap (λ (k : ℕ). labelled (x ∷ xs) (set s p k)) e)
+
+pub puts-labelled : (n l : ℕ) (d : Device) → blocks d * d .pages ≤ none → n ≤ free d → puts l n d .spare ≡ labelled (pieces l n d) (d .spare)
+unfolding puts putsAt targets putAt pieces places placesAt runs labelled
+puts-labelled zero l d w f = refl
+puts-labelled (suc n) l d w f =
+    let h : 0 < free d = omega arith in
+    puts-labelled n (suc l) (next l d) (next-words d w l) (omega (arith, open-free d (target d) l (target-open d h)))
+    ∙ sym (ap (λ (es : List Extent). labelled es (d .spare)) (pieces-step l n d w h)
+    ∙ labelled-join (d .pages) l (openPage d) (pieces (suc l) n (next l d)) (d .spare))
