@@ -23,10 +23,11 @@ use Rattle.laws.specs.Bools.{cases, never}
 use Rattle.laws.specs.Sums.{sum-change, count-same, count-none, count-first}
 use Rattle.laws.specs.Runs.{Joined, joinable-true, joined-true, join-joined, join-apart, runs-page}
 use Rattle.laws.specs.Device.{Sound, none-block}
-use Rattle.laws.specs.Balance.{room-other}
+use Rattle.laws.specs.Balance
 use Rattle.laws.specs.Lines.{trimmed-sound, trimmed-in, fewer-free}
 use Rattle.laws.specs.Placed.{Open, Opens, target-open, target-lowest, puts-table, puts-pages, length-targets, length-placed, targets-open}
 use Rattle.laws.specs.Valid.{puts-valid}
+use Rattle.laws.specs.Counts.{runs-first}
 
 -- ---- what a block takes
 
@@ -60,6 +61,11 @@ unfoldable pub labelled : List Extent → List ℕ → List ℕ
 labelled [] s = s
 labelled (e ∷ es) s = labelled es (sets s (e .physical) (tabulate (e .count) (λ i. e .logical + i)))
 
+-- the page of the first piece, or 0 where there is none
+unfoldable pub firstPage : List Extent → ℕ
+firstPage [] = 0
+firstPage (e ∷ es) = e .physical
+
 pub listed-none : (e : Extent) (es : List Extent) → e .count ≡ 0 → listed e es ≡ es
 unfolding listed
 listed-none e es h = rw (eq-eqb (e .count) 0 h)
@@ -81,6 +87,37 @@ pub taken-room : (n reserve b f want : ℕ) → 0 < taken n reserve b f want →
 unfolding taken
 taken-room n reserve b f want h = omega (arith, room-le n reserve b f)
 
+room-other : (n reserve b f : ℕ) → (b ≡ reserve → ⊥) → roomAt n reserve b f ≡ n - f
+unfolding roomAt
+room-other n reserve b f h = rw (ne-eqb b reserve h)
+
+-- what it takes, case by case
+module _ (n reserve b f want : ℕ) where
+  pub taken-reserve : b ≡ reserve → taken n reserve b f want ≡ 0
+  unfolding taken roomAt
+  taken-reserve e = rw (eq-eqb b reserve e) (omega arith)
+
+  pub taken-full : n ≤ f → taken n reserve b f want ≡ 0
+  unfolding taken
+  taken-full h = omega (arith, room-le n reserve b f)
+
+  pub taken-part : (b ≡ reserve → ⊥) → n - f < want → taken n reserve b f want ≡ n - f
+  unfolding taken
+  taken-part e h = omega (arith, room-other n reserve b f e)
+
+  pub taken-all : (b ≡ reserve → ⊥) → want ≤ n - f → taken n reserve b f want ≡ want
+  unfolding taken
+  taken-all e h = omega (arith, room-other n reserve b f e)
+
+  -- a block without room for one page takes none of any number, and one with room takes some
+  pub taken-none : taken n reserve b f 1 ≡ 0 → taken n reserve b f want ≡ 0
+  unfolding taken
+  taken-none h = omega arith
+
+  pub taken-some : 0 < taken n reserve b f 1 → 0 < want → 0 < taken n reserve b f want
+  unfolding taken
+  taken-some h k = omega arith
+
 module _ (n reserve f : ℕ) (fs : List ℕ) (b l want : ℕ) where
   pub spread-skip : taken n reserve b f want ≡ 0 → spread n reserve (f ∷ fs) b l want ≡ spread n reserve fs (b + 1) l want
   unfolding spread
@@ -96,6 +133,20 @@ module _ (n reserve f : ℕ) (fs : List ℕ) (b l want : ℕ) where
   spread-some h =
       let m = taken n reserve b f want in
       listed-some (extent l (b * n + f) m) (spread n reserve fs (b + 1) (l + m) (want - m)) h
+
+-- how many pieces there are is no matter of the lines
+pub spread-length : (n reserve : ℕ) (fs : List ℕ) (b l l′ want : ℕ) → length (spread n reserve fs b l want) ≡ length (spread n reserve fs b l′ want)
+unfolding spread
+spread-length n reserve [] b l l′ want = refl
+spread-length n reserve (f ∷ fs) b l l′ want =
+    let m = taken n reserve b f want in
+    by-cases (decLt 0 m)
+    (λ h. ap length (spread-some n reserve f fs b l want h)
+    ∙ ap suc (spread-length n reserve fs (b + 1) (l + m) (l′ + m) (want - m))
+    ∙ sym (ap length (spread-some n reserve f fs b l′ want h)))
+    (λ h. ap length (spread-skip n reserve f fs b l want (omega arith))
+    ∙ spread-length n reserve fs (b + 1) l l′ want
+    ∙ sym (ap length (spread-skip n reserve f fs b l′ want (omega arith))))
 
 -- ---- one page
 
@@ -241,7 +292,7 @@ target-leads d h =
       inside = v .inside;
       before = λ j a. let e : 0 + j ≡ j = omega arith in
           ap (λ (x : ℕ). roomAt (d .pages) (d .reserve) x (fill d j)) e ∙ room-at d j ∙ target-lowest d j a;
-      some = omega (arith, ap (λ (x : ℕ). roomAt (d .pages) (d .reserve) x (fill d t)) z, room-at d t, room-other d t (v .other), v .below);
+      some = omega (arith, ap (λ (x : ℕ). roomAt (d .pages) (d .reserve) x (fill d t)) z, room-at d t, Balance.room-other d t (v .other), v .below);
     }
 
 -- the page that is taken first, and the device with it taken
@@ -260,7 +311,7 @@ unfolding free putAt
 open-free d b l v =
     let e = putAt b l d in
     let same = getD-set-same (d .fills) b (suc (fill d b)) 0 (v .inside) in
-    let here : room e b + 1 ≡ room d b = omega (arith, room-other e b (v .other), room-other d b (v .other), v .below) in
+    let here : room e b + 1 ≡ room d b = omega (arith, Balance.room-other e b (v .other), Balance.room-other d b (v .other), v .below) in
     rw (length-set (d .fills) b (suc (fill d b))) (omega (
       arith,
       here,
@@ -284,10 +335,14 @@ pub places-first : (l n : ℕ) (d : Device) → places l (suc n) d ≡ openPage 
 unfolding places placesAt targets
 places-first l n d = refl
 
+pieces-first : (l n : ℕ) (d : Device) → pieces l (suc n) d ≡ runs (d .pages) l (openPage d ∷ places (suc l) n (next l d))
+unfolding pieces
+pieces-first l n d = ap (runs (d .pages) l) (places-first l n d)
+
 pieces-step : (l n : ℕ) (d : Device) → blocks d * d .pages ≤ none → 0 < free d → pieces l (suc n) d ≡ join (d .pages) (extent l (openPage d) 1) (pieces (suc l) n (next l d))
 unfolding pieces putAt
 pieces-step l n d w h =
-    ap (runs (d .pages) l) (places-first l n d) ∙ runs-page (d .pages) l (openPage d) (places (suc l) n (next l d)) (page-some d w h)
+    pieces-first l n d ∙ runs-page (d .pages) l (openPage d) (places (suc l) n (next l d)) (page-some d w h)
 
 pub spread-pieces : (n l : ℕ) (d : Device) → blocks d * d .pages ≤ none → n ≤ free d → spread (d .pages) (d .reserve) (d .fills) 0 l n ≡ pieces l n d
 unfolding pieces places placesAt targets runs putAt
@@ -309,9 +364,18 @@ puts-filled (suc n) l d f =
     puts-filled n (suc l) (next l d) (omega (arith, open-free d t l (target-open d h)))
     ∙ sym (filled-step (d .pages) (d .reserve) (d .fills) 0 t n (target-leads d h))
 
+-- the first piece begins with the first page
+pub first-page : (n l : ℕ) (d : Device) → blocks d * d .pages ≤ none → 0 < n → n ≤ free d → firstPage (pieces l n d) ≡ getD (places l n d) 0 none
+unfolding firstPage
+first-page zero l d w h f = absurd (omega arith)
+first-page (suc n) l d w h f =
+    let p : 0 < free d = omega arith in
+    let g = runs-first (d .pages) l (openPage d) (places (suc l) n (next l d)) (page-some d w p) in
+    ap firstPage (pieces-first l n d ∙ g .is) ∙ sym (ap (λ (ps : List ℕ). getD ps 0 none) (places-first l n d))
+
 -- ---- labels
 
-tabulate-each : (n : ℕ) (f g : ℕ → ℕ) → ((i : ℕ) → f i ≡ g i) → tabulate n f ≡ tabulate n g
+pub tabulate-each : (n : ℕ) (f g : ℕ → ℕ) → ((i : ℕ) → f i ≡ g i) → tabulate n f ≡ tabulate n g
 unfolding tabulate
 tabulate-each zero f g h = refl
 tabulate-each (suc n) f g h = ap₂ (λ (x : ℕ) (r : List ℕ). x ∷ r) (h 0) (tabulate-each n (λ i. f (suc i)) (λ i. g (suc i)) (λ i. h (suc i)))

@@ -1,0 +1,4 @@
+pub mod Bare
+pub mod Blocks
+pub mod Rest
+pub mod Place

@@ -1,0 +1,2 @@
+-- What `place` has done and what is left to do.
+use Prim.Native.Nat.{ℕ}
