@@ -2,10 +2,14 @@
 // and in specs/Placement.antt of `rules`, and nowhere else in the code.
 ghost use mathlib.Core.Path.{_≡_};
 ghost use Prim.Native.Nat.{ℕ, _+_, _-_, _*_, _<_, _≤_, _^_};
-ghost use lib.ListN.{length, getD};
+ghost use mathlib.Core.List.{[], _∷_};
+ghost use lib.ListN.{length};
+ghost use lib.Seq.{sets};
 ghost use Rattle.rules.specs.Blocks.{stride, fillWord, validWord};
 ghost use Rattle.laws.specs.Spread.{taken, spread, firstPage};
-ghost use Rattle.placing.specs.Bare.{fillsOf};
+ghost use Rattle.placing.specs.Bare.{fillsOf, bare};
+ghost use Rattle.placing.specs.Blocks.{raised};
+ghost use Rattle.placing.specs.Place.{Fits, PlacedIn};
 
 // What block b takes of `want` pages.
 fn room_in(blk: &[u32], b: usize, n: u32, reserve: u32, want: u32) -> u32
@@ -57,4 +61,44 @@ pub fn first_page(blk: &[u32], blocks: u32, n: u32, reserve: u32) -> u32
         b += 1;
     }
     0
+}
+
+// ---- placed
+
+// m pages more in block b, each of them mapped.
+fn raise(blk: &mut [u32], b: usize, m: u32)
+    requires { ⌜ (stride * b + 1 < length (now blk)) × (fillWord (now blk) b + m < 2 ^ 32) × (validWord (now blk) b + m < 2 ^ 32) ⌝ }
+    ensures { λ _. ⌜ now (blk .exit) ≡ raised m b (now (blk .entry)) ⌝ }
+{
+    let fill = words::fill_of(blk, b);
+    let valid = words::valid_of(blk, b);
+    words::put_fill(blk, b, fill + m);
+    words::put_valid(blk, b, valid + m);
+}
+
+// Piece k of the answer.
+fn list(out: &mut [u32], k: usize, l: u32, p: u32, c: u32)
+    requires { ⌜ 3 * k + 3 ≤ length (now out) ⌝ }
+    ensures { λ _. ⌜ now (out .exit) ≡ sets (now (out .entry)) (3 * k) (l ∷ p ∷ c ∷ []) ⌝ }
+{
+    let at = 3 * k;
+    out[at] = l;
+    out[at + 1] = p;
+    out[at + 2] = c;
+}
+
+// One block's part of a write: the labels of its m pages, its record, and piece k. Nothing where m is 0.
+fn place_in(blk: &mut [u32], spare: &mut [u32], out: &mut [u32], b: usize, n: u32, l: u32, m: u32, k: u32) -> u32
+    requires { ⌜ Fits (now blk) (now spare) (now out) b n l m k ⌝ }
+    ensures { λ r. ⌜ PlacedIn (now (blk .entry)) (now (spare .entry)) (now (out .entry)) (now (blk .exit)) (now (spare .exit)) (now (out .exit)) b n l m k r ⌝ }
+{
+    if m == 0 {
+        return k;
+    }
+    let page = (b as u32) * n + words::fill_of(blk, b);
+    let first = page as usize;
+    words::fill_rise(&mut spare[first..first + (m as usize)], l);
+    raise(blk, b, m);
+    list(out, k as usize, l, page, m);
+    k + 1
 }
