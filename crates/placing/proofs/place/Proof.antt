@@ -1,67 +1,78 @@
+use Prim.Native.Nat.{_-_}
+use native.Mathlib.Omega.{arith}
+use borrow.Author.Needs.{needs}
+use Rattle.rules.specs.Blocks.{fillWord}
+use Rattle.laws.specs.Spread.{taken-le}
+use Rattle.placing.specs.Way.{Placing, placing-start, placing-fits, placing-step, placing-end}
 use Rattle.placing.proofs.place.Statement.{statement}
 use Rattle.placing.proofs.place.Tie as tie
-use Rattle.placing.proofs.place.Reads as reads
-use Rattle.placing.proofs.place.Lts as lts
-use Rattle.placing.proofs.place_in.Reads as place-in-reads
-use Rattle.placing.proofs.room_in.Reads as room-in-reads
 
 abbrev Inv-loop : tie.InvT-loop
-Inv-loop blk₀ spare₀ out₀ blocks n reserve l want done₀ k₀ b₀ blk spare out done k b = ?
+Inv-loop blk₀ spare₀ out₀ blocks n reserve l want done₀ k₀ b₀ blk spare out done k b = Placing n reserve blocks l want blk₀ spare₀ out₀ blk spare out b done k
 
 abbrev μ-loop : tie.MeasureT-loop
-μ-loop blk₀ spare₀ out₀ blocks n reserve l want done₀ k₀ b₀ blk spare out done k b = ?
+μ-loop blk₀ spare₀ out₀ blocks n reserve l want done₀ k₀ b₀ blk spare out done k b = blocks - b
 
--- src/lib.rt:114:5
 loop-holds : tie.Need-loop-holds Inv-loop μ-loop
-loop-holds c = ?
+loop-holds c = placing-start _ _ _ _ _ _ _ _ (c .before .before .before .pre .valid)
 
--- src/lib.rt:115:45
 sub-room-in : tie.Need-sub-room-in Inv-loop μ-loop
-sub-room-in c = ?
+sub-room-in c = search needs
 
--- src/lib.rt:115:13
 room-in-requires : tie.Need-room-in-requires Inv-loop μ-loop
-room-in-requires c κs = ?
+room-in-requires c κs = search needs
 
--- src/lib.rt:116:45
 add-place-in : tie.Need-add-place-in Inv-loop μ-loop
-add-place-in c = ?
+add-place-in c = search needs
 
--- src/lib.rt:116:9
 place-in-requires : tie.Need-place-in-requires Inv-loop μ-loop
-place-in-requires c κs = ?
+place-in-requires c κs =
+    let v = c .before .before .before .before .before .before .before .before .before .before .args in
+    let i = c .before .before .before .before .before .before .loop in
+    let m = c .before .before .before .room-in .result in
+    let t = c .before .before .before .room-in .ensures in
+    placing-fits (v .n) (v .reserve) (v .blocks) (v .l) (v .want) (v .blk .now) (v .spare .now) (v .out .now) (c .before .before .before .before .before .before .before .before .before .before .pre)
+    (i .blk) (i .spare) (i .out) (i .b) (i .done) (i .k) (i .inv) m (omega arith) t
 
--- src/lib.rt:117:9
 add-done : tie.Need-add-done Inv-loop μ-loop
-add-done c = ?
+add-done c =
+    let v = c .before .before .before .before .before .before .before .before .before .before .before .before .before .before .before .before .before .args in
+    let i = c .before .before .before .before .before .before .before .before .before .before .before .before .before .loop in
+    let m = c .before .before .before .before .before .before .before .before .before .before .room-in .result in
+    let t = c .before .before .before .before .before .before .before .before .before .before .room-in .ensures in
+    omega (arith, taken-le (v .n) (v .reserve) (i .b) (fillWord (i .blk) (i .b)) (v .want - i .done))
 
--- src/lib.rt:118:9
 add-b : tie.Need-add-b Inv-loop μ-loop
-add-b c = ?
+add-b c = search needs
 
--- src/lib.rt:114:5
 loop-less : tie.Need-loop-less Inv-loop μ-loop
-loop-less c = ?
+loop-less c = search needs
 
--- src/lib.rt:114:5
 loop-again : tie.Need-loop-again Inv-loop μ-loop
-loop-again c = ?
+loop-again c =
+    let v = c .before .before .before .before .before .before .before .before .before .before .before .before .before .before .before .before .before .args in
+    let i = c .before .before .before .before .before .before .before .before .before .before .before .before .before .loop in
+    let m = c .before .before .before .before .before .before .before .before .before .before .room-in .result in
+    let t = c .before .before .before .before .before .before .before .before .before .before .room-in .ensures in
+    placing-step (v .n) (v .reserve) (v .blocks) (v .l) (v .want) (v .blk .now) (v .spare .now) (v .out .now) (c .before .before .before .before .before .before .before .before .before .before .before .before .before .before .before .before .before .pre)
+    (i .blk) (i .spare) (i .out) (i .b) (i .done) (i .k) (i .inv) m (omega arith) t
+    (c .before .before .before .before .before .before .place-in .last .0) (c .before .before .before .before .before .before .place-in .last .1 .0) (c .before .before .before .before .before .before .place-in .last .1 .1 .0) (c .before .before .before .before .before .before .place-in .result) (c .before .before .before .before .before .before .place-in .ensures)
 
--- src/lib.rt:107:1
 same-length : tie.Need-same-length Inv-loop μ-loop
-same-length c = ?
+same-length c = search needs
 
--- src/lib.rt:107:1
 same-length-2 : tie.Need-same-length-2 Inv-loop μ-loop
-same-length-2 c = ?
+same-length-2 c = search needs
 
--- src/lib.rt:107:1
 same-length-3 : tie.Need-same-length-3 Inv-loop μ-loop
-same-length-3 c = ?
+same-length-3 c = search needs
 
--- src/lib.rt:107:1
 returns : tie.Need-returns Inv-loop μ-loop
-returns c = ?
+returns c =
+    let v = c .before .before .before .before .before .args in
+    let i = c .before .loop in
+    placing-end (v .n) (v .reserve) (v .blocks) (v .l) (v .want) (v .blk .now) (v .spare .now) (v .out .now) (c .before .before .before .before .before .pre)
+    (i .blk) (i .spare) (i .out) (i .b) (i .done) (i .k) (i .inv) (omega arith)
 
 pub place-spec : {M : Type 1} → statement M
 place-spec =
