@@ -1,0 +1,541 @@
+-- Placement block by block: each block in turn takes what it has room for, and this gives what 01's page by page gives.
+-- Placement reads the fills, the reserve and N, and nothing else.
+use Prim.Native.Nat.{ℕ, zero, suc, _+_, _-_, _*_, _/_, _≤_, _<_, min}
+use mathlib.Core.Path.{_≡_, refl, sym, ap, ap₂, _∙_}
+use mathlib.Core.List.{List, [], _∷_}
+use mathlib.Core.Bool.{cond}
+use mathlib.Core.Logic.{by-cases}
+use native.Mathlib.Omega.{arith}
+use native.Mathlib.Decide.{decLt, ℕ-discrete}
+use borrow.Author.Tests.{eq-eqb, ne-eqb}
+use lib.Arith.{digits-lt, digits-div}
+use lib.Dec.{eqb}
+use lib.ListN.{length, getD, set, replicate, length-set, length-replicate}
+use lib.Seq.{sets, length-sets, getD-set-same, getD-set-other, set-set, set-comm}
+use Rattle.rules.specs.Counting.{one, count, tabulate}
+use Rattle.rules.specs.Extents.{none, extent, joinable, join, runs}
+use Rattle.rules.specs.Device.{Device, blocks, lines, at, fill, room, free, valid, mapped}
+use Rattle.rules.specs.Placement.{putAt, putsAt, placesAt, target, targets, puts, places, pieces}
+use Rattle.rules.specs.Number.{withTable, trimmed}
+use Rattle.rules.specs.declared.Extent.{Extent}
+use Rattle.laws.specs.Bools.{cases, never}
+use Rattle.laws.specs.Sums.{sum-change, count-none, count-first}
+use Rattle.laws.specs.Runs.{Joined, joinable-true, joined-true, join-joined, join-apart, runs-page}
+use Rattle.laws.specs.Device.{Sound, none-block}
+use Rattle.laws.specs.Balance
+use Rattle.laws.specs.Lines.{trimmed-sound, trimmed-in}
+use Rattle.laws.specs.Placed.{Open, target-open, target-lowest, puts-table, length-targets, length-placed, targets-open}
+use Rattle.laws.specs.Valid.{puts-valid}
+use Rattle.laws.specs.Counts.{runs-first}
+
+-- ---- what a block takes
+
+-- the room of block b, whose fill is f
+unfoldable pub roomAt : ℕ → ℕ → ℕ → ℕ → ℕ
+roomAt n reserve b f = cond (eqb b reserve) 0 (n - f)
+
+unfoldable pub taken : ℕ → ℕ → ℕ → ℕ → ℕ → ℕ
+taken n reserve b f want = min (roomAt n reserve b f) want
+
+-- an extent in front of others; of no pages it is none
+unfoldable pub listed : Extent → List Extent → List Extent
+listed e es = cond (eqb (e .count) 0) es (e ∷ es)
+
+-- the pieces of `want` pages for lines l, l + 1, .., over blocks b, b + 1, .., whose fills are given
+unfoldable pub spread : ℕ → ℕ → List ℕ → ℕ → ℕ → ℕ → List Extent
+spread n reserve [] b l want = []
+spread n reserve (f ∷ fs) b l want =
+    let m = taken n reserve b f want in
+    listed (extent l (b * n + f) m) (spread n reserve fs (b + 1) (l + m) (want - m))
+
+-- and the fills with what each block takes
+unfoldable pub filled : ℕ → ℕ → List ℕ → ℕ → ℕ → List ℕ
+filled n reserve [] b want = []
+filled n reserve (f ∷ fs) b want =
+    let m = taken n reserve b f want in
+    (f + m) ∷ filled n reserve fs (b + 1) (want - m)
+
+-- the labels of pieces, stored piece by piece
+unfoldable pub labelled : List Extent → List ℕ → List ℕ
+labelled [] s = s
+labelled (e ∷ es) s = labelled es (sets s (e .physical) (tabulate (e .count) (λ i. e .logical + i)))
+
+-- the page of the first piece, or 0 where there is none
+unfoldable pub firstPage : List Extent → ℕ
+firstPage [] = 0
+firstPage (e ∷ es) = e .physical
+
+pub listed-none : (e : Extent) (es : List Extent) → e .count ≡ 0 → listed e es ≡ es
+unfolding listed
+listed-none e es h = rw (eq-eqb (e .count) 0 h)
+
+pub listed-some : (e : Extent) (es : List Extent) → 0 < e .count → listed e es ≡ e ∷ es
+unfolding listed
+listed-some e es h = rw (ne-eqb (e .count) 0 (omega arith))
+
+pub taken-le : (n reserve b f want : ℕ) → taken n reserve b f want ≤ want
+unfolding taken
+taken-le n reserve b f want = omega arith
+
+pub room-le : (n reserve b f : ℕ) → roomAt n reserve b f ≤ n - f
+unfolding roomAt
+room-le n reserve b f = cases (eqb b reserve) (λ e. rw e (omega arith)) (λ e. rw e (omega arith))
+
+-- a block that takes pages has room for them
+pub taken-room : (n reserve b f want : ℕ) → 0 < taken n reserve b f want → f + taken n reserve b f want ≤ n
+unfolding taken
+taken-room n reserve b f want h = omega (arith, room-le n reserve b f)
+
+room-other : (n reserve b f : ℕ) → (b ≡ reserve → ⊥) → roomAt n reserve b f ≡ n - f
+unfolding roomAt
+room-other n reserve b f h = rw (ne-eqb b reserve h)
+
+-- what it takes, case by case
+module _ (n reserve b f want : ℕ) where
+  pub taken-reserve : b ≡ reserve → taken n reserve b f want ≡ 0
+  unfolding taken roomAt
+  taken-reserve e = rw (eq-eqb b reserve e) (omega arith)
+
+  pub taken-full : n ≤ f → taken n reserve b f want ≡ 0
+  unfolding taken
+  taken-full h = omega (arith, room-le n reserve b f)
+
+  pub taken-part : (b ≡ reserve → ⊥) → n - f < want → taken n reserve b f want ≡ n - f
+  unfolding taken
+  taken-part e h = omega (arith, room-other n reserve b f e)
+
+  pub taken-all : (b ≡ reserve → ⊥) → want ≤ n - f → taken n reserve b f want ≡ want
+  unfolding taken
+  taken-all e h = omega (arith, room-other n reserve b f e)
+
+  -- a block without room for one page takes none of any number, and one with room takes some
+  pub taken-none : taken n reserve b f 1 ≡ 0 → taken n reserve b f want ≡ 0
+  unfolding taken
+  taken-none h = omega arith
+
+  pub taken-some : 0 < taken n reserve b f 1 → 0 < want → 0 < taken n reserve b f want
+  unfolding taken
+  taken-some h k = omega arith
+
+module _ (n reserve f : ℕ) (fs : List ℕ) (b l want : ℕ) where
+  pub spread-skip : taken n reserve b f want ≡ 0 → spread n reserve (f ∷ fs) b l want ≡ spread n reserve fs (b + 1) l want
+  unfolding spread
+  spread-skip e =
+      let m = taken n reserve b f want in
+      let p : l + m ≡ l = omega arith in
+      let q : want - m ≡ want = omega arith in
+      listed-none (extent l (b * n + f) m) (spread n reserve fs (b + 1) (l + m) (want - m)) e
+      ∙ ap₂ (λ (x y : ℕ). spread n reserve fs (b + 1) x y) p q
+
+  pub spread-some : 0 < taken n reserve b f want → spread n reserve (f ∷ fs) b l want ≡ extent l (b * n + f) (taken n reserve b f want) ∷ spread n reserve fs (b + 1) (l + taken n reserve b f want) (want - taken n reserve b f want)
+  unfolding spread
+  spread-some h =
+      let m = taken n reserve b f want in
+      listed-some (extent l (b * n + f) m) (spread n reserve fs (b + 1) (l + m) (want - m)) h
+
+-- how many pieces there are is no matter of the lines
+pub spread-length : (n reserve : ℕ) (fs : List ℕ) (b l l′ want : ℕ) → length (spread n reserve fs b l want) ≡ length (spread n reserve fs b l′ want)
+unfolding spread
+spread-length n reserve [] b l l′ want = refl
+spread-length n reserve (f ∷ fs) b l l′ want =
+    let m = taken n reserve b f want in
+    by-cases (decLt 0 m)
+    (λ h. ap length (spread-some n reserve f fs b l want h)
+    ∙ ap suc (spread-length n reserve fs (b + 1) (l + m) (l′ + m) (want - m))
+    ∙ sym (ap length (spread-some n reserve f fs b l′ want h)))
+    (λ h. ap length (spread-skip n reserve f fs b l want (omega arith))
+    ∙ spread-length n reserve fs (b + 1) l l′ want
+    ∙ sym (ap length (spread-skip n reserve f fs b l′ want (omega arith))))
+
+-- ---- one page
+
+-- pieces from block b on join with nothing in a block before it
+spread-apart : (n reserve : ℕ) (fs : List ℕ) (b l want : ℕ) (a : Extent) → a .physical / n < b → join n a (spread n reserve fs b l want) ≡ a ∷ spread n reserve fs b l want
+unfolding join spread
+spread-apart n reserve [] b l want a h = refl
+spread-apart n reserve (f ∷ fs) b l want a h =
+    let m = taken n reserve b f want in
+    by-cases (decLt 0 m)
+    (λ s. rw (spread-some n reserve f fs b l want s) (join-apart n a (extent l (b * n + f) m) (spread n reserve fs (b + 1) (l + m) (want - m))
+    (never (joinable n a (extent l (b * n + f) m)) (λ e.
+    omega (arith, joinable-true n a (extent l (b * n + f) m) e .block, digits-div b {m = n} {r = f} (omega (arith, taken-room n reserve b f want s)))))))
+    (λ s. rw (spread-skip n reserve f fs b l want (omega arith)) (spread-apart n reserve fs (b + 1) l want a (omega arith)))
+
+-- a page less of room
+room-suc : (n reserve b f : ℕ) → 0 < roomAt n reserve b f → roomAt n reserve b (suc f) + 1 ≡ roomAt n reserve b f
+unfolding roomAt
+room-suc n reserve b f =
+    cases {C = 0 < roomAt n reserve b f → roomAt n reserve b (suc f) + 1 ≡ roomAt n reserve b f} (eqb b reserve)
+    (λ e. rw e (λ h. absurd (omega arith)))
+    (λ e. rw e (λ h. omega arith))
+
+taken-suc : (n reserve b f w : ℕ) → 0 < roomAt n reserve b f → taken n reserve b f (suc w) ≡ suc (taken n reserve b (suc f) w)
+unfolding taken
+taken-suc n reserve b f w h = omega (arith, room-suc n reserve b f h)
+
+-- the blocks before the k-th have no room, and the k-th has: it takes the first page
+pub record Leads (n reserve : ℕ) (fs : List ℕ) (b k : ℕ) : Type 0 where
+  pub inside : k < length fs
+  pub before : (j : ℕ) → j < k → roomAt n reserve (b + j) (getD fs j 0) ≡ 0
+  pub some : 0 < roomAt n reserve (b + k) (getD fs k 0)
+
+leads-here : (n reserve f : ℕ) (fs : List ℕ) (b : ℕ) → Leads n reserve (f ∷ fs) b 0 → 0 < roomAt n reserve b f
+leads-here n reserve f fs b v = let e : b + 0 ≡ b = omega arith in omega (arith, v .some, ap (λ (x : ℕ). roomAt n reserve x f) e)
+
+leads-skip : (n reserve f : ℕ) (fs : List ℕ) (b k want : ℕ) → Leads n reserve (f ∷ fs) b (suc k) → taken n reserve b f want ≡ 0
+unfolding taken
+leads-skip n reserve f fs b k want v =
+    let e : b + 0 ≡ b = omega arith in omega (arith, v .before 0 (omega arith), ap (λ (x : ℕ). roomAt n reserve x f) e)
+
+leads-next : (n reserve f : ℕ) (fs : List ℕ) (b k : ℕ) → Leads n reserve (f ∷ fs) b (suc k) → Leads n reserve fs (b + 1) k
+leads-next n reserve f fs b k v = record {
+  inside = omega (arith, v .inside);
+  before = λ j h. let e : b + 1 + j ≡ b + suc j = omega arith in
+      ap (λ (x : ℕ). roomAt n reserve x (getD fs j 0)) e ∙ v .before (suc j) (omega arith);
+  some = let e : b + 1 + k ≡ b + suc k = omega arith in
+      omega (arith, v .some, ap (λ (x : ℕ). roomAt n reserve x (getD fs k 0)) e);
+}
+
+step-here : (n reserve f : ℕ) (fs : List ℕ) (b l w : ℕ) → 0 < roomAt n reserve b f
+    → spread n reserve (f ∷ fs) b l (suc w) ≡ join n (extent l (b * n + f) 1) (spread n reserve (suc f ∷ fs) b (suc l) w)
+step-here n reserve f fs b l w h =
+    let m = taken n reserve b f (suc w) in
+    let m′ = taken n reserve b (suc f) w in
+    let e = taken-suc n reserve b f w h in
+    let page = extent l (b * n + f) 1 in
+    let home = digits-div b {m = n} {r = f} (omega (arith, room-le n reserve b f)) in
+    spread-some n reserve f fs b l (suc w) (omega arith)
+    ∙ by-cases (decLt 0 m′)
+    (λ s. let next = extent (suc l) (b * n + suc f) m′ in
+    let j : Joined n page next = record {
+      block = home ∙ sym (digits-div b {m = n} {r = suc f} (omega (arith, taken-room n reserve b (suc f) w s)));
+      logical = omega arith;
+      physical = omega arith;
+    } in
+    let c : m ≡ 1 + m′ = omega arith in
+    let p : l + m ≡ suc l + m′ = omega arith in
+    let q : suc w - m ≡ w - m′ = omega arith in
+    ap₂ (λ (x : Extent) (y : List Extent). x ∷ y) (ap (extent l (b * n + f)) c) (ap₂ (λ (x y : ℕ). spread n reserve fs (b + 1) x y) p q)
+    ∙ sym (ap (join n page) (spread-some n reserve (suc f) fs b (suc l) w s)
+    ∙ join-joined n page next (spread n reserve fs (b + 1) (suc l + m′) (w - m′)) (joined-true n page next j)))
+    (λ s. let c : m ≡ 1 = omega arith in
+    let p : l + m ≡ suc l = omega arith in
+    let q : suc w - m ≡ w = omega arith in
+    ap₂ (λ (x : Extent) (y : List Extent). x ∷ y) (ap (extent l (b * n + f)) c) (ap₂ (λ (x y : ℕ). spread n reserve fs (b + 1) x y) p q)
+    ∙ sym (ap (join n page) (spread-skip n reserve (suc f) fs b (suc l) w (omega arith))
+    ∙ spread-apart n reserve fs (b + 1) (suc l) w page (omega arith)))
+
+spread-step : (n reserve : ℕ) (fs : List ℕ) (b k l w p : ℕ) → Leads n reserve fs b k → p ≡ (b + k) * n + getD fs k 0
+    → spread n reserve fs b l (suc w) ≡ join n (extent l p 1) (spread n reserve (set fs k (suc (getD fs k 0))) b (suc l) w)
+spread-step n reserve [] b k l w p v e = absurd (omega (arith, v .inside))
+spread-step n reserve (f ∷ fs) b zero l w p v e =
+    let z : b + 0 ≡ b = omega arith in
+    let e′ : p ≡ b * n + f = e ∙ ap (λ (x : ℕ). x * n + f) z in
+    rw e′ (step-here n reserve f fs b l w (leads-here n reserve f fs b v))
+spread-step n reserve (f ∷ fs) b (suc k) l w p v e =
+    let z : b + suc k ≡ b + 1 + k = omega arith in
+    let e′ : p ≡ (b + 1 + k) * n + getD fs k 0 = e ∙ ap (λ (x : ℕ). x * n + getD fs k 0) z in
+    spread-skip n reserve f fs b l (suc w) (leads-skip n reserve f fs b k (suc w) v)
+    ∙ spread-step n reserve fs (b + 1) k l w p (leads-next n reserve f fs b k v) e′
+    ∙ sym (ap (join n (extent l p 1)) (spread-skip n reserve f (set fs k (suc (getD fs k 0))) b (suc l) w (leads-skip n reserve f fs b k w v)))
+
+-- a block that takes nothing keeps its fill
+filled-skip : (n reserve f : ℕ) (fs : List ℕ) (b want : ℕ) → taken n reserve b f want ≡ 0 → filled n reserve (f ∷ fs) b want ≡ f ∷ filled n reserve fs (b + 1) want
+unfolding filled
+filled-skip n reserve f fs b want e =
+    let m = taken n reserve b f want in
+    let p : f + m ≡ f = omega arith in
+    let q : want - m ≡ want = omega arith in
+    ap₂ (λ (x y : ℕ). x ∷ filled n reserve fs (b + 1) y) p q
+
+filled-step : (n reserve : ℕ) (fs : List ℕ) (b k w : ℕ) → Leads n reserve fs b k → filled n reserve fs b (suc w) ≡ filled n reserve (set fs k (suc (getD fs k 0))) b w
+unfolding filled
+filled-step n reserve [] b k w v = refl
+filled-step n reserve (f ∷ fs) b zero w v =
+    let m = taken n reserve b f (suc w) in
+    let m′ = taken n reserve b (suc f) w in
+    let e = taken-suc n reserve b f w (leads-here n reserve f fs b v) in
+    let p : f + m ≡ suc f + m′ = omega arith in
+    let q : suc w - m ≡ w - m′ = omega arith in
+    ap₂ (λ (x y : ℕ). x ∷ filled n reserve fs (b + 1) y) p q
+filled-step n reserve (f ∷ fs) b (suc k) w v =
+    filled-skip n reserve f fs b (suc w) (leads-skip n reserve f fs b k (suc w) v)
+    ∙ ap (λ (r : List ℕ). f ∷ r) (filled-step n reserve fs (b + 1) k w (leads-next n reserve f fs b k v))
+    ∙ sym (filled-skip n reserve f (set fs k (suc (getD fs k 0))) b w (leads-skip n reserve f fs b k w v))
+
+pub spread-none : (n reserve : ℕ) (fs : List ℕ) (b l : ℕ) → spread n reserve fs b l 0 ≡ []
+unfolding spread
+spread-none n reserve [] b l = refl
+spread-none n reserve (f ∷ fs) b l =
+    spread-skip n reserve f fs b l 0 (omega (arith, taken-le n reserve b f 0)) ∙ spread-none n reserve fs (b + 1) l
+
+pub filled-none : (n reserve : ℕ) (fs : List ℕ) (b : ℕ) → filled n reserve fs b 0 ≡ fs
+unfolding filled
+filled-none n reserve [] b = refl
+filled-none n reserve (f ∷ fs) b =
+    filled-skip n reserve f fs b 0 (omega (arith, taken-le n reserve b f 0)) ∙ ap (λ (r : List ℕ). f ∷ r) (filled-none n reserve fs (b + 1))
+
+-- ---- a device
+
+room-at : (d : Device) (b : ℕ) → roomAt (d .pages) (d .reserve) b (fill d b) ≡ room d b
+unfolding roomAt room
+room-at d b = refl
+
+-- 01's choice of the next block
+target-leads : (d : Device) → 0 < free d → Leads (d .pages) (d .reserve) (d .fills) 0 (target d)
+target-leads d h =
+    let t = target d in
+    let v = target-open d h in
+    let z : 0 + t ≡ t = omega arith in
+    record {
+      inside = v .inside;
+      before = λ j a. let e : 0 + j ≡ j = omega arith in
+          ap (λ (x : ℕ). roomAt (d .pages) (d .reserve) x (fill d j)) e ∙ room-at d j ∙ target-lowest d j a;
+      some = omega (arith, ap (λ (x : ℕ). roomAt (d .pages) (d .reserve) x (fill d t)) z, room-at d t, Balance.room-other d t (v .other), v .below);
+    }
+
+-- the page that is taken first, and the device with it taken
+abbrev pub openPage : Device → ℕ
+openPage d = target d * d .pages + fill d (target d)
+
+abbrev pub next : ℕ → Device → Device
+next l d = putAt (target d) l d
+
+put-blocks : (b l : ℕ) (d : Device) → blocks (putAt b l d) ≡ blocks d
+unfolding putAt
+put-blocks b l d = length-set (d .fills) b (suc (fill d b))
+
+open-free : (d : Device) (b l : ℕ) → Open d b → free (putAt b l d) + 1 ≡ free d
+unfolding free putAt
+open-free d b l v =
+    let e = putAt b l d in
+    let same = getD-set-same (d .fills) b (suc (fill d b)) 0 (v .inside) in
+    let here : room e b + 1 ≡ room d b = omega (arith, Balance.room-other e b (v .other), Balance.room-other d b (v .other), v .below) in
+    rw (length-set (d .fills) b (suc (fill d b))) (omega (
+      arith,
+      here,
+      sum-change (blocks d) (room e) (room d) b (v .inside) (λ c h f.
+          sym (room-at e c) ∙ ap (roomAt (d .pages) (d .reserve) c) (getD-set-other (d .fills) b c (suc (fill d b)) 0 f) ∙ room-at d c),
+    ))
+
+module _ (d : Device) (words : blocks d * d .pages ≤ none) where
+  page-some : 0 < free d → openPage d ≡ none → ⊥
+  page-some h e =
+      let v = target-open d h in
+      omega (arith, digits-lt {q = target d} {m = blocks d} {r = fill d (target d)} {c = d .pages} (v .inside) (v .below))
+
+  next-words : (l : ℕ) → blocks (next l d) * next l d .pages ≤ none
+  unfolding putAt
+  next-words l = rw (length-set (d .fills) (target d) (suc (fill d (target d)))) words
+
+-- ---- page by page is block by block
+
+pub places-first : (l n : ℕ) (d : Device) → places l (suc n) d ≡ openPage d ∷ places (suc l) n (next l d)
+unfolding places placesAt targets
+places-first l n d = refl
+
+pieces-first : (l n : ℕ) (d : Device) → pieces l (suc n) d ≡ runs (d .pages) l (openPage d ∷ places (suc l) n (next l d))
+unfolding pieces
+pieces-first l n d = ap (runs (d .pages) l) (places-first l n d)
+
+pieces-step : (l n : ℕ) (d : Device) → blocks d * d .pages ≤ none → 0 < free d → pieces l (suc n) d ≡ join (d .pages) (extent l (openPage d) 1) (pieces (suc l) n (next l d))
+unfolding pieces putAt
+pieces-step l n d w h =
+    pieces-first l n d ∙ runs-page (d .pages) l (openPage d) (places (suc l) n (next l d)) (page-some d w h)
+
+pub spread-pieces : (n l : ℕ) (d : Device) → blocks d * d .pages ≤ none → n ≤ free d → spread (d .pages) (d .reserve) (d .fills) 0 l n ≡ pieces l n d
+unfolding pieces places placesAt targets runs putAt
+spread-pieces zero l d w f = spread-none (d .pages) (d .reserve) (d .fills) 0 l
+spread-pieces (suc n) l d w f =
+    let h : 0 < free d = omega arith in
+    let t = target d in
+    let z : 0 + t ≡ t = omega arith in
+    spread-step (d .pages) (d .reserve) (d .fills) 0 t l n (openPage d) (target-leads d h) (sym (ap (λ (x : ℕ). x * d .pages + fill d t) z))
+    ∙ ap (join (d .pages) (extent l (openPage d) 1)) (spread-pieces n (suc l) (next l d) (next-words d w l) (omega (arith, open-free d t l (target-open d h))))
+    ∙ sym (pieces-step l n d w h)
+
+pub puts-filled : (n l : ℕ) (d : Device) → n ≤ free d → puts l n d .fills ≡ filled (d .pages) (d .reserve) (d .fills) 0 n
+unfolding puts putsAt targets putAt
+puts-filled zero l d f = sym (filled-none (d .pages) (d .reserve) (d .fills) 0)
+puts-filled (suc n) l d f =
+    let h : 0 < free d = omega arith in
+    let t = target d in
+    puts-filled n (suc l) (next l d) (omega (arith, open-free d t l (target-open d h)))
+    ∙ sym (filled-step (d .pages) (d .reserve) (d .fills) 0 t n (target-leads d h))
+
+-- the first piece begins with the first page
+pub first-page : (n l : ℕ) (d : Device) → blocks d * d .pages ≤ none → 0 < n → n ≤ free d → firstPage (pieces l n d) ≡ getD (places l n d) 0 none
+unfolding firstPage
+first-page zero l d w h f = absurd (omega arith)
+first-page (suc n) l d w h f =
+    let p : 0 < free d = omega arith in
+    let g = runs-first (d .pages) l (openPage d) (places (suc l) n (next l d)) (page-some d w p) in
+    ap firstPage (pieces-first l n d ∙ g .is) ∙ sym (ap (λ (ps : List ℕ). getD ps 0 none) (places-first l n d))
+
+-- ---- labels
+
+pub tabulate-each : (n : ℕ) (f g : ℕ → ℕ) → ((i : ℕ) → f i ≡ g i) → tabulate n f ≡ tabulate n g
+unfolding tabulate
+tabulate-each zero f g h = refl
+tabulate-each (suc n) f g h = ap₂ (λ (x : ℕ) (r : List ℕ). x ∷ r) (h 0) (tabulate-each n (λ i. f (suc i)) (λ i. g (suc i)) (λ i. h (suc i)))
+
+labelled-join : (n l p : ℕ) (es : List Extent) (s : List ℕ) → labelled (join n (extent l p 1) es) s ≡ labelled es (set s p l)
+unfolding labelled join tabulate
+labelled-join n l p [] s = let e : l + 0 ≡ l = omega arith in ap (set s p) e
+labelled-join n l p (x ∷ xs) s =
+    let a = extent l p 1 in
+    let e : l + 0 ≡ l = omega arith in
+    cases (joinable n a x)
+    (λ f. let j = joinable-true n a x f in
+    let c : 1 + x .count ≡ suc (x .count) = omega arith in
+    let q : suc p ≡ x .physical = omega (arith, j .physical) in
+    ap (λ (ys : List Extent). labelled ys s) (join-joined n a x xs f)
+    ∙ ap (λ (k : ℕ). labelled xs (sets s p (tabulate k (λ i. l + i)))) c
+    ∙ ap (λ (k : ℕ). labelled xs (sets (set s p k) (suc p) (tabulate (x .count) (λ i. l + suc i)))) e
+    ∙ ap₂ (λ (k : ℕ) (r : List ℕ). labelled xs (sets (set s p l) k r)) q
+    (tabulate-each (x .count) (λ i. l + suc i) (λ i. x .logical + i) (λ i. omega (arith, j .logical))))
+    (λ f. ap (λ (ys : List Extent). labelled ys s) (join-apart n a x xs f) ∙ ap (λ (k : ℕ). labelled (x ∷ xs) (set s p k)) e)
+
+pub puts-labelled : (n l : ℕ) (d : Device) → blocks d * d .pages ≤ none → n ≤ free d → puts l n d .spare ≡ labelled (pieces l n d) (d .spare)
+unfolding puts putsAt targets putAt pieces places placesAt runs labelled
+puts-labelled zero l d w f = refl
+puts-labelled (suc n) l d w f =
+    let h : 0 < free d = omega arith in
+    puts-labelled n (suc l) (next l d) (next-words d w l) (omega (arith, open-free d (target d) l (target-open d h)))
+    ∙ sym (ap (λ (es : List Extent). labelled es (d .spare)) (pieces-step l n d w h)
+    ∙ labelled-join (d .pages) l (openPage d) (pieces (suc l) n (next l d)) (d .spare))
+
+-- ---- a fill rises by the pages that its block takes
+
+put-rises : (b l : ℕ) (d : Device) (c : ℕ) → c < blocks d → fill (putAt b l d) c ≡ fill d c + one (eqb b c)
+unfolding putAt
+put-rises b l d c h =
+    by-cases (ℕ-discrete c b)
+    (λ e. omega (
+      arith,
+      ap (λ (x : ℕ). getD (set (d .fills) b (suc (fill d b))) x 0) e,
+      getD-set-same (d .fills) b (suc (fill d b)) 0 (omega arith),
+      ap (fill d) e,
+      ap one (eq-eqb b c (sym e)),
+    ))
+    (λ e. omega (arith, getD-set-other (d .fills) b c (suc (fill d b)) 0 e, ap one (ne-eqb b c (λ g. e (sym g)))))
+
+rises : (l : ℕ) (bs : List ℕ) (d : Device) (c : ℕ) → c < blocks d → fill (putsAt l bs d) c ≡ fill d c + count (length bs) (λ i. eqb (getD bs i 0) c)
+unfolding putsAt count
+rises l [] d c h = omega arith
+rises l (b ∷ bs) d c h =
+    omega (
+      arith,
+      rises (suc l) bs (putAt b l d) c (rw (put-blocks b l d) h),
+      put-rises b l d c h,
+      count-first (length bs) (λ i. eqb (getD (b ∷ bs) i 0) c),
+    )
+
+pub puts-rise : (l n : ℕ) (d : Device) (c : ℕ) → c < blocks d → fill (puts l n d) c ≡ fill d c + count n (λ i. eqb (getD (targets l n d) i 0) c)
+unfolding puts
+puts-rise l n d c h =
+    omega (arith, rises l (targets l n d) d c h, ap (λ (k : ℕ). count k (λ i. eqb (getD (targets l n d) i 0) c)) (length-targets l n d))
+
+-- ---- placement reads no line of the table
+
+pub record Alike (d e : Device) : Type 0 where
+  pub pages : d .pages ≡ e .pages
+  pub fills : d .fills ≡ e .fills
+  pub spare : d .spare ≡ e .spare
+  pub reserve : d .reserve ≡ e .reserve
+
+module _ (d e : Device) (a : Alike d e) where
+  pub alike-free : free d ≡ free e
+  unfolding free room
+  alike-free = rw (a .pages, a .fills, a .reserve)
+
+  alike-target : target d ≡ target e
+  unfolding target
+  alike-target = rw (a .pages, a .fills, a .reserve)
+
+  alike-page : openPage d ≡ openPage e
+  alike-page = rw (alike-target, a .pages, a .fills)
+
+  alike-next : (l : ℕ) → Alike (next l d) (next l e)
+  unfolding putAt
+  alike-next l = record {
+    pages = a .pages;
+    fills = rw (alike-target, a .fills);
+    spare = ap₂ (λ (s : List ℕ) (p : ℕ). set s p l) (a .spare) alike-page;
+    reserve = a .reserve;
+  }
+
+pub alike-targets : (l n : ℕ) (d e : Device) → Alike d e → targets l n d ≡ targets l n e
+unfolding targets
+alike-targets l zero d e a = refl
+alike-targets l (suc n) d e a = ap₂ (λ (b : ℕ) (r : List ℕ). b ∷ r) (alike-target d e a) (alike-targets (suc l) n (next l d) (next l e) (alike-next d e a l))
+
+pub alike-places : (l n : ℕ) (d e : Device) → Alike d e → places l n d ≡ places l n e
+unfolding places placesAt targets
+alike-places l zero d e a = refl
+alike-places l (suc n) d e a =
+    ap₂ (λ (p : ℕ) (r : List ℕ). p ∷ r) (alike-page d e a) (alike-places (suc l) n (next l d) (next l e) (alike-next d e a l))
+
+pub alike-puts : (l n : ℕ) (d e : Device) → Alike d e → Alike (puts l n d) (puts l n e)
+unfolding puts putsAt targets
+alike-puts l zero d e a = a
+alike-puts l (suc n) d e a = alike-puts (suc l) n (next l d) (next l e) (alike-next d e a l)
+
+pub alike-pieces : (l n : ℕ) (d e : Device) → Alike d e → pieces l n d ≡ pieces l n e
+unfolding pieces
+alike-pieces l n d e a = ap₂ (λ (k : ℕ) (ps : List ℕ). runs k l ps) (a .pages) (alike-places l n d e a)
+
+-- ---- a write over a range that is trimmed first
+
+set-sets : (t us : List ℕ) (i j v : ℕ) → i < j → set (sets t j us) i v ≡ sets (set t i v) j us
+set-sets t [] i j v h = refl
+set-sets t (u ∷ us) i j v h =
+    set-sets (set t j u) us i (suc j) v (omega arith) ∙ ap (λ (x : List ℕ). sets x (suc j) us) (set-comm t j i u v (omega arith))
+
+pub sets-sets : (t us vs : List ℕ) (i : ℕ) → length us ≡ length vs → sets (sets t i us) i vs ≡ sets t i vs
+sets-sets t [] [] i e = refl
+sets-sets t [] (v ∷ vs) i e = absurd (omega arith)
+sets-sets t (u ∷ us) [] i e = absurd (omega arith)
+sets-sets t (u ∷ us) (v ∷ vs) i e =
+    ap (λ (x : List ℕ). sets x (suc i) vs) (set-sets (set t i u) us i (suc i) v (omega arith) ∙ ap (λ (x : List ℕ). sets x (suc i) us) (set-set t i u v))
+    ∙ sets-sets (set t i v) us vs (suc i) (omega arith)
+
+module _ (k l n : ℕ) (d : Device) where
+  pub trimmed-alike : Alike (trimmed k l n d) d
+  unfolding trimmed withTable
+  trimmed-alike = record { pages = refl; fills = refl; spare = refl; reserve = refl }
+
+  pub over-table : puts l n (trimmed k l n d) .table ≡ puts l n d .table
+  unfolding puts trimmed withTable places
+  over-table =
+      let t = trimmed k l n d in
+      puts-table l (targets l n t) t
+      ∙ ap (sets (t .table) l) (alike-places l n t d trimmed-alike)
+      ∙ sets-sets (d .table) (replicate n none) (places l n d) l (length-replicate n none ∙ sym (length-placed l n d))
+      ∙ sym (puts-table l (targets l n d) d)
+
+  pub over-valid : (c : ℕ) → valid (puts l n (trimmed k l n d)) c ≡ valid (puts l n d) c
+  unfolding valid mapped
+  over-valid c = rw (over-table, alike-puts l n (trimmed k l n d) d trimmed-alike .pages)
+
+  -- the trim has taken the range out of every block's count, and the write adds what each block takes
+  pub over-rise : Sound d → n ≤ free d → l + n ≤ lines d → (c : ℕ) → c < blocks d
+      → valid (puts l n d) c ≡ valid (trimmed k l n d) c + count n (λ i. eqb (getD (targets l n d) i 0) c)
+  unfolding puts trimmed withTable
+  over-rise s f h c z =
+      let t = trimmed k l n d in
+      let bs = targets l n t in
+      let ts = trimmed-sound k l n d s h in
+      let m = length-targets l n t in
+      let size : lines t ≡ lines d = length-sets (d .table) l (replicate n none) in
+      let f′ : n ≤ free t = omega (arith, alike-free t d trimmed-alike) in
+      omega (
+        arith,
+        over-valid c,
+        puts-valid l bs t ts (targets-open l n t ts f′ (omega arith)) (omega arith) c z,
+        count-none (length bs) (λ i. eqb (at t (l + i) / d .pages) c) (λ i a.
+            ne-eqb (at t (l + i) / d .pages) c (λ e. none-block d s c z
+            (sym (ap (λ (x : ℕ). x / d .pages) (trimmed-in k l n d h (l + i) (omega arith) (omega arith))) ∙ e))),
+        ap (λ (x : ℕ). count x (λ i. eqb (getD bs i 0) c)) m,
+        ap (λ (x : List ℕ). count n (λ i. eqb (getD x i 0) c)) (alike-targets l n t d trimmed-alike),
+      )

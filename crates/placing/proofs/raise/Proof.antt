@@ -1,0 +1,42 @@
+use Rattle.placing.specs.Blocks.{raised}
+use borrow.Author.Needs.{needs}
+use Rattle.placing.proofs.raise.Statement.{statement}
+use Rattle.placing.proofs.raise.Tie as tie
+
+fill-of-requires : tie.Need-fill-of-requires
+fill-of-requires c κs = search needs
+
+valid-of-requires : tie.Need-valid-of-requires
+valid-of-requires c κs = search needs
+
+add-put-fill : tie.Need-add-put-fill
+add-put-fill c = search needs
+
+put-fill-requires : tie.Need-put-fill-requires
+put-fill-requires c κs = search needs
+
+add-put-valid : tie.Need-add-put-valid
+add-put-valid c = search needs
+
+put-valid-requires : tie.Need-put-valid-requires
+put-valid-requires c κs = search needs
+
+same-length : tie.Need-same-length
+same-length c = search needs
+
+returns : tie.Need-returns
+unfolding raised
+returns c = cc
+
+pub raise-spec : {M : Type 1} → statement M
+raise-spec =
+    tie.close
+    (tie.spec
+    fill-of-requires
+    valid-of-requires
+    add-put-fill
+    put-fill-requires
+    add-put-valid
+    put-valid-requires
+    same-length
+    returns)
