@@ -34,7 +34,6 @@ pub mod Records
 pub mod States
 pub mod Calls
 pub mod Until
-<<<<<<< HEAD
 pub mod Encoded
 pub mod Kept
 pub mod Growth
@@ -45,6 +44,4 @@ pub mod Worlds
 pub mod Starts
 pub mod Demand2
 pub mod Demand3
-=======
 pub mod Spread
->>>>>>> g

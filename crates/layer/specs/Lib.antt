@@ -1,3 +1,1 @@
-pub mod Verdicts
 pub mod Fresh
-pub mod Report
