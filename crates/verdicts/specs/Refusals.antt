@@ -4,9 +4,10 @@ use mathlib.Core.Bool.{Bool, true, false, not}
 use mathlib.Core.Path.{_≡_, refl, sym, ap, _∙_}
 use mathlib.Core.List.{List}
 use native.Mathlib.Omega.{arith}
-use borrow.Author.Tests.{eq-eqb, ne-eqb}
-use lib.Dec.{eqb}
-use lib.ListN.{length}
+use borrow.Author.Tests.{eq-eqb, ne-eqb, not-true, not-false, leb-true, leb-false, lt-ltb, le-ltb}
+use lib.Dec.{eqb, ltb, leb}
+use Rattle.laws.specs.Bools.{cases}
+use lib.ListN.{length, replicate}
 use Rattle.rules.specs.Lent.{Lent}
 use Rattle.rules.specs.Shape.{shaped}
 use Rattle.rules.specs.Sound.{sound}
@@ -14,6 +15,33 @@ use Rattle.rules.specs.Device.{Device, deviceOf}
 use Rattle.rules.specs.Answers.{Outcome, number, refuse}
 use Rattle.rules.specs.Calls.{Call, refusal, refused, verdict, acceptedOn, call}
 use Rattle.rules.specs.declared.Refusal.{Refusal}
+use Rattle.verdicts.specs.declared.Verdict.{Verdict}
+
+-- what a verdict says: the refusal's number, or 0
+abbrev pub told : Verdict → ℕ
+told Verdict.Accepted = 0
+told (Verdict.Refused r) = number r
+
+-- 1 and 2
+unfoldable pub lentRefusal : Lent → ℕ
+lentRefusal s = refuse (not (shaped s)) Refusal.Shape (refuse (not (sound s)) Refusal.Damaged 0)
+
+-- a request whose answer buffer has a room of so many words: a verdict looks at nothing else of it
+abbrev pub roomed : ℕ → List ℕ
+roomed k = replicate k 0
+
+-- what a branch on `!f(..)` says of the test that f's contract names
+pub says-no : {r t : Bool} → r ≡ t → not r ≡ true → t ≡ false
+says-no {r} e q = sym e ∙ not-true r q
+
+pub says-yes : {r t : Bool} → r ≡ t → not r ≡ false → t ≡ true
+says-yes {r} e q = sym e ∙ not-false r q
+
+pub over-not : (a b : ℕ) → not (leb a b) ≡ ltb b a
+over-not a b =
+    cases (leb a b)
+    (λ e. rw e (sym (le-ltb b a (leb-true a b e))))
+    (λ e. rw e (sym (lt-ltb b a (leb-false a b e))))
 
 -- ---- one test of a row
 
@@ -26,6 +54,19 @@ unfolding refuse
 refuse-later t r later e = rw e
 
 -- ---- 1 and 2
+
+module _ (s : Lent) where
+  pub lent-shape : shaped s ≡ false → number Refusal.Shape ≡ lentRefusal s
+  unfolding lentRefusal
+  lent-shape e = sym (refuse-here (not (shaped s)) Refusal.Shape _ (ap not e))
+
+  pub lent-damaged : shaped s ≡ true → sound s ≡ false → number Refusal.Damaged ≡ lentRefusal s
+  unfolding lentRefusal
+  lent-damaged e f = sym (refuse-later (not (shaped s)) Refusal.Shape _ (ap not e) ∙ refuse-here (not (sound s)) Refusal.Damaged 0 (ap not f))
+
+  pub lent-sound : shaped s ≡ true → sound s ≡ true → 0 ≡ lentRefusal s
+  unfolding lentRefusal
+  lent-sound e f = sym (refuse-later (not (shaped s)) Refusal.Shape _ (ap not e) ∙ refuse-later (not (sound s)) Refusal.Damaged 0 (ap not f))
 
 module _ (c : Call) (s : Lent) where
   pub verdict-shape : shaped s ≡ false → verdict c s ≡ number Refusal.Shape

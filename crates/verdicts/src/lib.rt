@@ -1,0 +1,63 @@
+// What each call is refused for, the first refusal that applies in the paper's order, decided over shared slices before anything is touched.
+use rules::Head;
+use rules::Refusal;
+ghost use mathlib.Core.Path.{_≡_};
+ghost use mathlib.Core.Bool.{not, _||_};
+ghost use Prim.Native.Nat.{ℕ, _+_, _-_, _*_, _<_, _≤_};
+ghost use mathlib.Core.List.{[]};
+ghost use lib.ListN.{length, replicate};
+ghost use lib.Dec.{eqb, ltb};
+ghost use Rattle.rules.specs.Lent.{lent};
+ghost use Rattle.rules.specs.Answers.{refuse};
+ghost use Rattle.rules.specs.Calls.{Call, verdict};
+ghost use Rattle.verdicts.specs.Refusals.{told, lentRefusal, roomed};
+
+pub enum Verdict {
+    Accepted,
+    Refused(Refusal),
+}
+
+// 1 and 2.
+pub fn lent_verdict(h: Head, ext: &[u32], blk: &[u32], spare: &[u32]) -> Verdict
+    ensures { λ v. ⌜ told v ≡ lentRefusal (lent h (now (ext .entry)) (now (blk .entry)) (now (spare .entry))) ⌝ }
+{
+    if !state::shape_ok(h, ext.len(), blk.len(), spare.len()) {
+        return Verdict::Refused(Refusal::Shape);
+    }
+    if !state::is_sound(h, ext, blk, spare) {
+        return Verdict::Refused(Refusal::Damaged);
+    }
+    Verdict::Accepted
+}
+
+// Not outside: one page or more, ending at or below L.
+pub fn in_range(top: u32, l: u32, n: u32) -> bool
+    ensures { λ r. ⌜ not r ≡ (eqb n 0 || ltb top (l + n)) ⌝ }
+{
+    if n == 0 {
+        return false;
+    }
+    (l as u64) + (n as u64) <= (top as u64)
+}
+
+ghost use Rattle.rules.specs.Shape.{shape};
+ghost use mathlib.Core.Bool.{true};
+ghost use Rattle.rules.specs.Sound.{sound};
+ghost use Rattle.rules.specs.Device.{deviceOf};
+ghost use Rattle.rules.specs.Calls.{readRefusal, trimRefusal, writeRefusal, reclaimRefusal};
+ghost use Rattle.laws.specs.Sane.{Shaped, Sane};
+
+// 3 and 7, of a sound state.
+pub fn read_verdict(h: Head, ext: &[u32], blk: &[u32], spare: &[u32], l: u32, n: u32, room: usize) -> Verdict
+    requires { ⌜ Shaped (lent h (now ext) (now blk) (now spare)) × Sane (lent h (now ext) (now blk) (now spare)) ⌝ }
+    ensures { λ v. ⌜ told v ≡ readRefusal l n (roomed room) (deviceOf (lent h (now (ext .entry)) (now (blk .entry)) (now (spare .entry)))) ⌝ }
+{
+    if !in_range(h.logical, l, n) {
+        return Verdict::Refused(Refusal::Range);
+    }
+    let used = h.used as usize;
+    if room / 3 < reading::count_found(ext, used, l, l + n) {
+        return Verdict::Refused(Refusal::OutShort);
+    }
+    Verdict::Accepted
+}
