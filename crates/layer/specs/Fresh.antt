@@ -2,6 +2,7 @@
 use Prim.Native.Nat.{ℕ, zero, suc, _+_, _-_, _*_, _≤_, _<_}
 use mathlib.Core.Path.{_≡_, refl, sym, ap, ap₂, _∙_}
 use mathlib.Core.List.{List, [], _∷_, _++_}
+use mathlib.Core.Bool.{true, false}
 use native.Mathlib.Omega.{arith}
 use borrow.Author.Tests.{eq-eqb}
 use lib.ListN.{length, getD, replicate, length-replicate}
@@ -9,11 +10,13 @@ use Rattle.rules.specs.Extents.{none, runs, flat}
 use Rattle.rules.specs.Blocks.{stride, records}
 use Rattle.rules.specs.Lent.{Lent, lent}
 use Rattle.rules.specs.Device.{Device, valid, extents, headOf, wordsOf}
-use Rattle.rules.specs.Calls.{freshDevice}
+use Rattle.rules.specs.Shape.{shape}
+use Rattle.rules.specs.Answers.{said, outcome}
+use Rattle.rules.specs.Calls.{freshDevice, sizesOnly, fresh}
 use Rattle.rules.specs.declared.Head.{Head}
 use Rattle.rules.specs.declared.Extent.{Extent}
 use Rattle.laws.specs.Sane.{Sizes}
-use Rattle.laws.specs.Shapes.{some-pages, pages-fit}
+use Rattle.laws.specs.Shapes.{some-pages, pages-fit, shape-true}
 use Rattle.laws.specs.Runs.{runs-hole}
 use Rattle.laws.specs.Fresh.{fresh-valid, fresh-blocks, fresh-lines}
 
@@ -64,3 +67,29 @@ module _ (b n l m : ℕ) (z : Sizes b n l m) where
   pub fresh-words : lent (freshHead b n l m) (replicate (3 * m) 0) (replicate (stride * b) 0) (replicate (b * n) none) ≡ wordsOf (freshDevice b n l m)
   unfolding wordsOf freshDevice extents
   fresh-words = sym (λ i. lent (head-is i) (extents-are i) (blocks-are i) (replicate (b * n) none))
+
+-- ---- the answer
+
+module _ (b n l m : ℕ) (extents blocks spare : List ℕ) where
+  -- the sizes as they were given
+  abbrev given : Head
+  given = record { blocks = b; pages = n; logical = l; slots = m; used = 0; reserve = 0; last = 0 }
+
+  pub fresh-refused : shape given (length extents) (length blocks) (length spare) ≡ false
+      → outcome (said 1 [] given) extents blocks spare [] ≡ fresh b n l m extents blocks spare
+  unfolding shape fresh sizesOnly
+  fresh-refused e = rw e
+
+  pub fresh-made : shape given (length extents) (length blocks) (length spare) ≡ true → (x y z : List ℕ)
+      → x ≡ replicate (length extents) 0 → y ≡ replicate (length blocks) 0 → z ≡ replicate (length spare) none
+      → outcome (said 0 [] (freshHead b n l m)) x y z [] ≡ fresh b n l m extents blocks spare
+  unfolding shape fresh
+  fresh-made e x y z p q r =
+      let f = shape-true given (length extents) (length blocks) (length spare) (unfold shape in e) in
+      let w : lent (freshHead b n l m) x y z ≡ wordsOf (freshDevice b n l m) =
+      (λ i. lent (freshHead b n l m) ((p ∙ ap (λ (k : ℕ). replicate k 0) (f .extents-is)) i) ((q ∙ ap (λ (k : ℕ). replicate k 0) (f .blocks-is)) i) ((r ∙ ap (λ (k : ℕ). replicate k none) (f .spare-is)) i))
+      ∙ fresh-words b n l m (f .sizes) in
+      rw e (λ i. record { refusal = 0; counts = []; after = w i; out = [] })
+
+  pub fresh-some : shape given (length extents) (length blocks) (length spare) ≡ true → 1 ≤ b
+  fresh-some e = omega (arith, shape-true given (length extents) (length blocks) (length spare) e .sizes .b-low)

@@ -1,0 +1,58 @@
+// The six calls on lent words. Each takes any head, any words of any lengths and any request, and promises one equality: the answer and
+// every lent word afterwards are what the rules give of what was lent. Nothing is changed before the verdict is accepted.
+use rules::Counted;
+use rules::Done;
+use rules::Head;
+use rules::Listed;
+use rules::Refusal;
+use verdicts::Verdict;
+ghost use mathlib.Core.Path.{_≡_};
+ghost use mathlib.Core.List.{[]};
+ghost use lib.ListN.{length};
+ghost use Rattle.rules.specs.Lent.{lent};
+ghost use Rattle.rules.specs.Answers.{outcome, done, listed, counted};
+ghost use Rattle.rules.specs.Calls.{Call, call, fresh};
+
+pub fn fresh(
+    blocks: u32,
+    pages: u32,
+    logical: u32,
+    slots: u32,
+    ext: &mut [u32],
+    blk: &mut [u32],
+    spare: &mut [u32],
+) -> Done
+    ensures { λ r. ⌜ outcome (done r) (now (ext .exit)) (now (blk .exit)) (now (spare .exit)) [] ≡ fresh blocks pages logical slots (now (ext .entry)) (now (blk .entry)) (now (spare .entry)) ⌝ }
+{
+    let given = Head {
+        blocks: blocks,
+        pages: pages,
+        logical: logical,
+        slots: slots,
+        used: 0,
+        reserve: 0,
+        last: 0,
+    };
+    if !state::shape_ok(given, ext.len(), blk.len(), spare.len()) {
+        return Done::Refused(Refusal::Shape, given);
+    }
+    words::fill_with(ext, 0);
+    words::fill_with(blk, 0);
+    words::fill_with(spare, 4294967295);
+    let mut made = given;
+    made.reserve = blocks - 1;
+    Done::Accepted(made)
+}
+
+pub fn report(h: Head, ext: &[u32], blk: &[u32], spare: &[u32]) -> Counted
+    ensures { λ r. ⌜ outcome (counted r) (now (ext .entry)) (now (blk .entry)) (now (spare .entry)) [] ≡ call Call.report (lent h (now (ext .entry)) (now (blk .entry)) (now (spare .entry))) ⌝ }
+{
+    let v = verdicts::lent_verdict(h, ext, blk, spare);
+    match v {
+        Verdict::Refused(r) => Counted::Refused(r, h),
+        Verdict::Accepted => {
+            let t = state::totals_of(h, blk);
+            Counted::Accepted(t.free, t.live, t.stale, h)
+        }
+    }
+}

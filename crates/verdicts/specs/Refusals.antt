@@ -7,6 +7,7 @@ use native.Mathlib.Omega.{arith}
 use borrow.Author.Tests.{eq-eqb, ne-eqb, not-true, not-false, leb-true, leb-false, lt-ltb, le-ltb}
 use lib.Dec.{eqb, ltb, leb}
 use Rattle.laws.specs.Bools.{cases}
+use Rattle.laws.specs.Kept.{refuse-none}
 use lib.ListN.{length, replicate}
 use Rattle.rules.specs.Lent.{Lent}
 use Rattle.rules.specs.Shape.{shaped}
@@ -44,6 +45,16 @@ over-not a b =
     (λ e. rw e (sym (lt-ltb b a (leb-false a b e))))
 
 -- ---- one test of a row
+
+pub number-some : (r : Refusal) → number r ≡ 0 → ⊥
+number-some Refusal.Shape e = omega arith
+number-some Refusal.Damaged e = omega arith
+number-some Refusal.Range e = omega arith
+number-some Refusal.Applied e = omega arith
+number-some Refusal.NoPages e = omega arith
+number-some Refusal.NoNodes e = omega arith
+number-some Refusal.OutShort e = omega arith
+number-some Refusal.NothingStale e = omega arith
 
 pub refuse-here : (t : Bool) (r : Refusal) (later : ℕ) → t ≡ true → refuse t r later ≡ number r
 unfolding refuse
@@ -83,16 +94,6 @@ module _ (c : Call) (s : Lent) where
 
   -- ---- the answer
 
-  pub number-some : (r : Refusal) → number r ≡ 0 → ⊥
-  number-some Refusal.Shape e = omega arith
-  number-some Refusal.Damaged e = omega arith
-  number-some Refusal.Range e = omega arith
-  number-some Refusal.Applied e = omega arith
-  number-some Refusal.NoPages e = omega arith
-  number-some Refusal.NoNodes e = omega arith
-  number-some Refusal.OutShort e = omega arith
-  number-some Refusal.NothingStale e = omega arith
-
   pub call-refused : (r : Refusal) → verdict c s ≡ number r → refused (number r) c s ≡ call c s
   unfolding call
   call-refused r e = rw (e, ne-eqb (number r) 0 (number-some r))
@@ -100,3 +101,27 @@ module _ (c : Call) (s : Lent) where
   pub call-accepted : verdict c s ≡ 0 → acceptedOn c s ≡ call c s
   unfolding call
   call-accepted e = rw e
+
+-- ---- 1 and 2, told by a verdict
+
+pub lent-none : (s : Lent) → 0 ≡ lentRefusal s → (shaped s ≡ true) × (sound s ≡ true)
+unfolding lentRefusal
+lent-none s e =
+    let t = refuse-none (not (shaped s)) Refusal.Shape (refuse (not (sound s)) Refusal.Damaged 0) (sym e) in
+    let u = refuse-none (not (sound s)) Refusal.Damaged 0 (t .1) in
+    (not-false (shaped s) (t .0), not-false (sound s) (u .0))
+
+pub lent-some : (c : Call) (s : Lent) (r : Refusal) → number r ≡ lentRefusal s → verdict c s ≡ number r
+lent-some c s r e =
+    cases (shaped s)
+    (λ f. cases (sound s)
+        (λ g. absurd (number-some r (e ∙ sym (lent-sound s f g))))
+        (λ g. verdict-damaged c s f g ∙ lent-damaged s f g ∙ sym e))
+    (λ f. verdict-shape c s f ∙ lent-shape s f ∙ sym e)
+
+-- a call that was told to refuse
+pub lent-refuses : (c : Call) (s : Lent) (v : Verdict) (r : Refusal) → told v ≡ lentRefusal s → v ≡ Verdict.Refused r → refused (number r) c s ≡ call c s
+lent-refuses c s v r e f = call-refused c s r (lent-some c s r (sym (ap told f) ∙ e))
+
+pub lent-accepts : (s : Lent) (v : Verdict) → told v ≡ lentRefusal s → v ≡ Verdict.Accepted → (shaped s ≡ true) × (sound s ≡ true)
+lent-accepts s v e f = lent-none s (sym (ap told f) ∙ e)
