@@ -1,2 +1,4 @@
 pub mod Fresh
 pub mod Report
+pub mod Accepts
+pub mod Reads

@@ -12,6 +12,8 @@ ghost use lib.ListN.{length};
 ghost use Rattle.rules.specs.Lent.{lent};
 ghost use Rattle.rules.specs.Answers.{outcome, done, listed, counted};
 ghost use Rattle.rules.specs.Calls.{Call, call, fresh};
+ghost use Rattle.layer.specs.Accepts.{Ready};
+ghost use Rattle.layer.specs.Reads.{ListedPieces};
 
 pub fn fresh(
     blocks: u32,
@@ -55,4 +57,30 @@ pub fn report(h: Head, ext: &[u32], blk: &[u32], spare: &[u32]) -> Counted
             Counted::Accepted(t.free, t.live, t.stale, h)
         }
     }
+}
+
+// A read that nothing refuses: how many pieces it listed.
+fn list_pieces(h: Head, ext: &[u32], blk: &[u32], spare: &[u32], l: u32, n: u32, out: &mut [u32]) -> u32
+    requires { ⌜ Ready (Call.read l n (now out)) (lent h (now ext) (now blk) (now spare)) ⌝ }
+    ensures { λ k. ⌜ ListedPieces l n (lent h (now (ext .entry)) (now (blk .entry)) (now (spare .entry))) k (now (out .entry)) (now (out .exit)) ⌝ }
+{
+    let used = h.used as usize;
+    let k = reading::count_found(ext, used, l, l + n);
+    reading::list_found(ext, used, l, l + n, out);
+    k as u32
+}
+
+pub fn read(h: Head, ext: &[u32], blk: &[u32], spare: &[u32], l: u32, n: u32, out: &mut [u32]) -> Listed
+    ensures { λ r. ⌜ outcome (listed r) (now (ext .entry)) (now (blk .entry)) (now (spare .entry)) (now (out .exit)) ≡ call (Call.read l n (now (out .entry))) (lent h (now (ext .entry)) (now (blk .entry)) (now (spare .entry))) ⌝ }
+{
+    let v = verdicts::lent_verdict(h, ext, blk, spare);
+    if let Verdict::Refused(r) = v {
+        return Listed::Refused(r, h);
+    }
+    let w = verdicts::read_verdict(h, ext, blk, spare, l, n, out.len());
+    if let Verdict::Refused(r) = w {
+        return Listed::Refused(r, h);
+    }
+    let k = list_pieces(h, ext, blk, spare, l, n, out);
+    Listed::Accepted(k, h)
 }
