@@ -1,5 +1,5 @@
 -- One turn adds one block to each of the three sums.
-use Prim.Native.Nat.{ℕ, _-_}
+use Prim.Native.Nat.{_-_}
 use native.Mathlib.Omega.{arith}
 use borrow.Author.Needs.{needs}
 use Rattle.state.specs.Totals.{Summed, summed-start, summed-step, summed-end, room-few}

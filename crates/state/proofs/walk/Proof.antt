@@ -1,11 +1,9 @@
 -- Slot by slot: what is refused refuses all; what is not goes on to the next, its pages in the tally.
-use Prim.Native.Nat.{ℕ, _+_, _-_, _*_, _/_}
-use mathlib.Core.Path.{refl}
+use Prim.Native.Nat.{_+_, _-_, _*_, _/_}
 use native.Mathlib.Omega.{arith}
 use borrow.Author.Needs.{needs}
-use lib.ListN.{length, getD}
+use lib.ListN.{getD}
 use Rattle.state.specs.Says.{told-yes, told-no}
-use Rattle.state.specs.Slot.{Placed}
 use Rattle.state.specs.Walk.{Left, left-start, left-bad, left-step, left-end, walk-no}
 use Rattle.state.proofs.walk.Statement.{statement}
 use Rattle.state.proofs.walk.Tie as tie
@@ -56,7 +54,7 @@ returns : tie.Need-returns Inv-loop μ-loop
 returns c = walk-no (left-bad (c .before .before .before .before .before .before .loop .inv) (search needs) (told-no (c .before .row-ok .result) (c .before .row-ok .ensures) (c .if1 .taken)))
 
 home-ok-requires : tie.Need-home-ok-requires Inv-loop μ-loop
-home-ok-requires c κs = let g = told-yes (c .before .row-ok .result) (c .before .row-ok .ensures) (c  .if1 .left) in let s = c .before .before .before .before .before .before .before .before .before .before .before .pre in record { records = s .records; spares = s .spares; some = s .some; fits = g .row .inside; small = g .row .small; ends = omega arith }
+home-ok-requires c κs = let g = told-yes (c .before .row-ok .result) (c .before .row-ok .ensures) (c .if1 .left) in let s = c .before .before .before .before .before .before .before .before .before .before .before .pre in record { records = s .records; spares = s .spares; some = s .some; fits = g .row .inside; small = g .row .small; ends = omega arith }
 
 same-length-2 : tie.Need-same-length-2 Inv-loop μ-loop
 same-length-2 c = search needs
@@ -71,7 +69,7 @@ cast-b : tie.Need-cast-b Inv-loop μ-loop
 cast-b c = let k = told-yes (c .before .home-ok .result) (c .before .home-ok .ensures) (c .if2 .left) in omega arith
 
 mul-tally : tie.Need-mul-tally Inv-loop μ-loop
-mul-tally c = let k = told-yes (c .before .home-ok .result) (c .before .home-ok .ensures) (c  .if2 .left) in omega arith
+mul-tally c = let k = told-yes (c .before .home-ok .result) (c .before .home-ok .ensures) (c .if2 .left) in omega arith
 
 slice-read-tally : tie.Need-slice-read-tally Inv-loop μ-loop
 slice-read-tally c = let k = told-yes (c .before .before .home-ok .result) (c .before .before .home-ok .ensures) (c .before .if2 .left) in omega (arith, c .before .before .before .before .before .before .before .before .before .loop .inv .wide)
