@@ -51,10 +51,15 @@ same-length : tie.Need-same-length Inv-loop μ-loop
 same-length c = search needs
 
 returns : tie.Need-returns Inv-loop μ-loop
-returns c = walk-no (left-bad (c .before .before .before .before .before .before .loop .inv) (search needs) (told-no (c .before .row-ok .result) (c .before .row-ok .ensures) (c .if1 .taken)))
+returns c =
+    walk-no
+    (left-bad (c .before .before .before .before .before .before .loop .inv) (search needs) (told-no (c .before .row-ok .result) (c .before .row-ok .ensures) (c .if1 .taken)))
 
 home-ok-requires : tie.Need-home-ok-requires Inv-loop μ-loop
-home-ok-requires c κs = let g = told-yes (c .before .row-ok .result) (c .before .row-ok .ensures) (c .if1 .left) in let s = c .before .before .before .before .before .before .before .before .before .before .before .pre in record { records = s .records; spares = s .spares; some = s .some; fits = g .row .inside; small = g .row .small; ends = omega arith }
+home-ok-requires c κs =
+    let g = told-yes (c .before .row-ok .result) (c .before .row-ok .ensures) (c .if1 .left) in
+    let s = c .before .before .before .before .before .before .before .before .before .before .before .pre in
+    record { records = s .records; spares = s .spares; some = s .some; fits = g .row .inside; small = g .row .small; ends = omega arith }
 
 same-length-2 : tie.Need-same-length-2 Inv-loop μ-loop
 same-length-2 c = search needs
@@ -72,7 +77,9 @@ mul-tally : tie.Need-mul-tally Inv-loop μ-loop
 mul-tally c = let k = told-yes (c .before .home-ok .result) (c .before .home-ok .ensures) (c .if2 .left) in omega arith
 
 slice-read-tally : tie.Need-slice-read-tally Inv-loop μ-loop
-slice-read-tally c = let k = told-yes (c .before .before .home-ok .result) (c .before .before .home-ok .ensures) (c .before .if2 .left) in omega (arith, c .before .before .before .before .before .before .before .before .before .loop .inv .wide)
+slice-read-tally c =
+    let k = told-yes (c .before .before .home-ok .result) (c .before .before .home-ok .ensures) (c .before .if2 .left) in
+    omega (arith, c .before .before .before .before .before .before .before .before .before .loop .inv .wide)
 
 add-tally : tie.Need-add-tally Inv-loop μ-loop
 add-tally c =
@@ -86,7 +93,9 @@ mul-tally-2 : tie.Need-mul-tally-2 Inv-loop μ-loop
 mul-tally-2 c = let k = told-yes (c .before .before .home-ok .result) (c .before .before .home-ok .ensures) (c .before .if2 .left) in omega arith
 
 slice-write-tally : tie.Need-slice-write-tally Inv-loop μ-loop
-slice-write-tally c = let k = told-yes (c .before .before .home-ok .result) (c .before .before .home-ok .ensures) (c .before .if2 .left) in omega (arith, c .before .before .before .before .before .before .before .before .before .loop .inv .wide)
+slice-write-tally c =
+    let k = told-yes (c .before .before .home-ok .result) (c .before .before .home-ok .ensures) (c .before .if2 .left) in
+    omega (arith, c .before .before .before .before .before .before .before .before .before .loop .inv .wide)
 
 add-lo : tie.Need-add-lo Inv-loop μ-loop
 add-lo c = let g = told-yes (c .before .before .before .before .row-ok .result) (c .before .before .before .before .row-ok .ensures) (c .before .before .before .if1 .left) in omega arith
@@ -101,7 +110,11 @@ loop-less : tie.Need-loop-less Inv-loop μ-loop
 loop-less c = search needs
 
 loop-again : tie.Need-loop-again Inv-loop μ-loop
-loop-again c = let s = c .before .before .before .before .before .before .before .before .before .before .before .before .before .before .pre in left-step (c .before .before .before .before .before .before .before .before .before .loop .inv) (search needs) (s .blocks-high) (s .pages-high) (told-yes (c .before .before .before .before .row-ok .result) (c .before .before .before .before .row-ok .ensures) (c .before .before .before .if1 .left)) (told-yes (c .before .before .home-ok .result) (c .before .before .home-ok .ensures) (c .before .if2 .left))
+loop-again c =
+    let s = c .before .before .before .before .before .before .before .before .before .before .before .before .before .before .pre in
+    left-step (c .before .before .before .before .before .before .before .before .before .loop .inv) (search needs) (s .blocks-high) (s .pages-high)
+    (told-yes (c .before .before .before .before .row-ok .result) (c .before .before .before .before .row-ok .ensures) (c .before .before .before .if1 .left))
+    (told-yes (c .before .before .home-ok .result) (c .before .before .home-ok .ensures) (c .before .if2 .left))
 
 same-length-3 : tie.Need-same-length-3 Inv-loop μ-loop
 same-length-3 c = search needs
