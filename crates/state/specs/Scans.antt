@@ -6,12 +6,11 @@ use mathlib.Core.List.{List, [], _∷_}
 use native.Mathlib.Omega.{arith}
 use borrow.Author.Tests.{ltb-true, lt-ltb, eqb-true, eq-eqb}
 use lib.Dec.{ltb, eqb}
-use lib.ListN.{length, getD, take, drop, length-take, length-drop}
-use lib.Seq.{getD-take, getD-drop}
+use lib.ListN.{length, getD, take, drop, length-take}
+use lib.Seq.{getD-take}
 use Rattle.rules.specs.Counting.{all}
-use Rattle.rules.specs.Extents.{none}
 use Rattle.words.specs.Parts.{part-length, part-at}
-use Rattle.state.specs.Says.{Says, says-all, says-for}
+use Rattle.state.specs.Says.{Says, says-all}
 
 -- below the length the default does not count
 pub word-at : (ws : List ℕ) (k x y : ℕ) → k < length ws → getD ws k x ≡ getD ws k y

@@ -1,8 +1,7 @@
 -- Refusal 1 from its bounds: a bound that fails refuses the sizes, the lengths or the shape.
 use Prim.Native.Nat.{ℕ, _*_, _≤_}
-use mathlib.Core.Bool.{true, false, _&&_}
+use mathlib.Core.Bool.{true, false}
 use mathlib.Core.Path.{_≡_, sym}
-use native.Mathlib.Omega.{arith}
 use native.Mathlib.Nat.{mul-le-mul}
 use borrow.Author.Tests.{eqb-true, eq-eqb}
 use Rattle.rules.specs.Blocks.{stride}

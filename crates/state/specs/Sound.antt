@@ -7,7 +7,7 @@ use native.Mathlib.Omega.{arith}
 use lib.Dec.{eqb}
 use lib.ListN.{length, getD, take, drop, replicate, length-replicate, getD-replicate}
 use Rattle.rules.specs.Counting.{sum, all}
-use Rattle.rules.specs.Blocks.{stride, fillWord}
+use Rattle.rules.specs.Blocks.{fillWord}
 use Rattle.rules.specs.Lent.{lent}
 use Rattle.rules.specs.Shape.{shape, shaped}
 use Rattle.rules.specs.Sound.{sound}

@@ -1,10 +1,10 @@
-// Refusals 1 and 2 on lent words, and the three counts of a state. `shape_ok` takes any head and any lengths; what
-// comes after it stands behind it.
+// Refusals 1 and 2 on lent words, and the three counts. `shape_ok` takes any head and any lengths, `is_sound` words
+// of the right shape, and `totals_of` the block records of a sound state.
 use rules::Head;
 ghost use mathlib.Core.Path.{_≡_};
 ghost use mathlib.Core.Bool.{true};
-ghost use Prim.Native.Nat.{ℕ, _+_, _-_, _*_, _<_, _≤_};
-ghost use lib.ListN.{length, getD};
+ghost use Prim.Native.Nat.{ℕ, _*_, _<_, _≤_};
+ghost use lib.ListN.{length};
 ghost use Rattle.rules.specs.Shape.{sizes, lengths, shape};
 ghost use Rattle.rules.specs.Blocks.{stride};
 ghost use Rattle.rules.specs.Lent.{lent};
@@ -126,7 +126,16 @@ fn home_ok(blk: &[u32], spare: &[u32], blocks: u32, n: u32, l: u32, p: u32, c: u
 }
 
 // Rules 1, 2 and 4 for the slots in use. Each slot's pages are added to its block's place in the tally.
-fn walk(ext: &[u32], blk: &[u32], spare: &[u32], used: usize, blocks: u32, n: u32, top: u32, tally: &mut [u32]) -> bool
+fn walk(
+    ext: &[u32],
+    blk: &[u32],
+    spare: &[u32],
+    used: usize,
+    blocks: u32,
+    n: u32,
+    top: u32,
+    tally: &mut [u32],
+) -> bool
     requires { ⌜ Given (now ext) (now blk) (now spare) (now tally) used blocks n ⌝ }
     ensures { λ r. ⌜ Walked r (now (ext .entry)) (now (blk .entry)) (now (spare .entry)) (now (tally .exit)) used blocks n top ⌝ }
 {
@@ -217,10 +226,26 @@ pub fn is_sound(h: Head, ext: &[u32], blk: &[u32], spare: &[u32]) -> bool
         return false;
     }
     let mut tally = [0u32; 1024];
-    if !walk(ext, blk, spare, h.used as usize, h.blocks, h.pages, h.logical, &mut tally) {
+    if !walk(
+        ext,
+        blk,
+        spare,
+        h.used as usize,
+        h.blocks,
+        h.pages,
+        h.logical,
+        &mut tally,
+    ) {
         return false;
     }
-    blocks_ok(blk, spare, h.blocks as usize, h.pages as usize, h.logical, &tally)
+    blocks_ok(
+        blk,
+        spare,
+        h.blocks as usize,
+        h.pages as usize,
+        h.logical,
+        &tally,
+    )
 }
 
 // ---- the three counts
@@ -259,5 +284,9 @@ pub fn totals_of(h: Head, blk: &[u32]) -> Totals
         stale += f - v;
         b += 1;
     }
-    Totals { free: free, live: live, stale: stale }
+    Totals {
+        free: free,
+        live: live,
+        stale: stale,
+    }
 }

@@ -1,6 +1,6 @@
 -- The fill, the labels below it, and then the scan from it on, which decides.
 use native.Mathlib.Omega.{arith}
-use lib.ListN.{length, length-take}
+use lib.ListN.{length-take}
 use Rattle.state.specs.Says.{says-no}
 use Rattle.state.specs.Block.{labels-no, labels-says}
 use borrow.Author.Needs.{needs}

@@ -1,5 +1,5 @@
 -- Block by block: what is refused refuses all.
-use Prim.Native.Nat.{ℕ, _-_}
+use Prim.Native.Nat.{_-_}
 use mathlib.Core.Path.{sym, _∙_}
 use native.Mathlib.Omega.{arith}
 use borrow.Author.Needs.{needs}
@@ -42,7 +42,9 @@ block-ok-requires : tie.Need-block-ok-requires Inv-loop μ-loop
 block-ok-requires c κs = search needs
 
 returns : tie.Need-returns Inv-loop μ-loop
-returns c = says-no (λ g. told-no (c .before .block-ok .result) (c .before .block-ok .ensures) (c .if1 .taken) (block-labels (c .before .before .before .before .before .before .before .before .before .pre) (search needs) _ _ (c .before .before .before .fill-of .ensures) (g _ (search needs))))
+returns c =
+    says-no (λ g. told-no (c .before .block-ok .result) (c .before .block-ok .ensures) (c .if1 .taken)
+    (block-labels (c .before .before .before .before .before .before .before .before .before .pre) (search needs) _ _ (c .before .before .before .fill-of .ensures) (g _ (search needs))))
 
 valid-of-requires : tie.Need-valid-of-requires Inv-loop μ-loop
 valid-of-requires c κs = search needs
@@ -66,7 +68,8 @@ loop-again : tie.Need-loop-again Inv-loop μ-loop
 loop-again c =
     let s = c .before .before .before .before .before .before .before .before .before .before .before .before .pre in
     let g = told-yes (c .before .before .before .before .block-ok .result) (c .before .before .before .before .block-ok .ensures) (c .before .before .before .if1 .left) in
-    passed-step _ (c .before .before .before .before .before .before .before .before .loop .inv) (search needs) (labels-block s (search needs) _ _ (c .before .before .before .before .before .before .fill-of .ensures) g (sym (c .before .before .valid-of .ensures) ∙ c .if2 .left))
+    passed-step _ (c .before .before .before .before .before .before .before .before .loop .inv) (search needs)
+    (labels-block s (search needs) _ _ (c .before .before .before .before .before .before .fill-of .ensures) g (sym (c .before .before .valid-of .ensures) ∙ c .if2 .left))
 
 returns-3 : tie.Need-returns-3 Inv-loop μ-loop
 returns-3 c = says-yes (passed-end _ (c .before .loop .inv) (search needs))

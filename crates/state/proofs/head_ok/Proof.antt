@@ -44,7 +44,10 @@ all-are-requires : tie.Need-all-are-requires
 all-are-requires c κs = search needs
 
 returns-4 : tie.Need-returns-4
-returns-4 c = let s = c .before .before .before .before .before .before .before .before .before .before .before .before in headed-says (s .args .h) (s .args .ext .now) (s .args .blk .now) (c .all-are .result) (s .pre .0) (omega arith) (omega arith) (sym (c .before .before .before .before .fill-of .ensures) ∙ c .before .before .before .if3 .left) (c .all-are .ensures)
+returns-4 c =
+    let s = c .before .before .before .before .before .before .before .before .before .before .before .before in
+    headed-says (s .args .h) (s .args .ext .now) (s .args .blk .now) (c .all-are .result) (s .pre .0) (omega arith) (omega arith)
+    (sym (c .before .before .before .before .fill-of .ensures) ∙ c .before .before .before .if3 .left) (c .all-are .ensures)
 
 pub head-ok-spec : {M : Type 1} → statement M
 head-ok-spec =

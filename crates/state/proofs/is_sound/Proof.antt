@@ -12,7 +12,8 @@ head-ok-requires : tie.Need-head-ok-requires
 head-ok-requires c κs = let z = shape-true _ _ _ _ (c .before .before .before .pre) in (z .extents-is, z .blocks-is)
 
 returns : tie.Need-returns
-returns c = head-no _ _ _ _ (c .before .before .before .before .before .pre) (told-no (c .before .head-ok .result) (c .before .head-ok .ensures) (c .if1 .taken))
+returns c =
+    head-no _ _ _ _ (c .before .before .before .before .before .pre) (told-no (c .before .head-ok .result) (c .before .head-ok .ensures) (c .if1 .taken))
 
 cast-walk : tie.Need-cast-walk
 cast-walk c = search needs
@@ -21,10 +22,14 @@ slice-aggregate-walk : tie.Need-slice-aggregate-walk
 slice-aggregate-walk c = search needs
 
 walk-requires : tie.Need-walk-requires
-walk-requires c κs = walk-given _ _ _ _ (c .before .before .before .before .before .before .before .pre) (told-yes (c .before .before .before .head-ok .result) (c .before .before .before .head-ok .ensures) (c .before .before .if1 .left))
+walk-requires c κs =
+    walk-given _ _ _ _ (c .before .before .before .before .before .before .before .pre)
+    (told-yes (c .before .before .before .head-ok .result) (c .before .before .before .head-ok .ensures) (c .before .before .if1 .left))
 
 returns-2 : tie.Need-returns-2
-returns-2 c = slots-no _ _ _ _ (c .before .before .before .before .before .before .before .before .before .before .pre) (told-no (c .before .before .walk .result) (c .before .before .walk .ensures .says) (c .if2 .taken))
+returns-2 c =
+    slots-no _ _ _ _ (c .before .before .before .before .before .before .before .before .before .before .pre)
+    (told-no (c .before .before .walk .result) (c .before .before .walk .ensures .says) (c .if2 .taken))
 
 cast-blocks-ok : tie.Need-cast-blocks-ok
 cast-blocks-ok c = search needs
@@ -36,15 +41,20 @@ slice-aggregate-blocks-ok : tie.Need-slice-aggregate-blocks-ok
 slice-aggregate-blocks-ok c = search needs
 
 blocks-ok-requires : tie.Need-blocks-ok-requires
-blocks-ok-requires c κs = let z = shape-true _ _ _ _ (c .before .before .before .before .before .before .before .before .before .before .before .before .before .pre) in record { records = z .blocks-is; spares = z .spare-is; wide = omega arith }
+blocks-ok-requires c κs =
+    let z = shape-true _ _ _ _ (c .before .before .before .before .before .before .before .before .before .before .before .before .before .pre) in
+    record { records = z .blocks-is; spares = z .spare-is; wide = omega arith }
 
 returns-3 : tie.Need-returns-3
 returns-3 c =
     let s = c .before .before .before .before .before .before .before .before .before .before .before .before .before .before in
+    let head = c .before .before .before .before .before .before .before .before .before .before .head-ok in
+    let walk = c .before .before .before .before .before .before .walk in
+    let walked = c .before .before .before .before .if2 .left in
     blocks-said (s .args .h) (s .args .ext .now) (s .args .blk .now) (s .args .spare .now) (s .pre) _ (c .blocks-ok .result)
-    (told-yes (c .before .before .before .before .before .before .before .before .before .before .head-ok .result) (c .before .before .before .before .before .before .before .before .before .before .head-ok .ensures) (c .before .before .before .before .before .before .before .before .before .if1 .left))
-    (told-yes (c .before .before .before .before .before .before .walk .result) (c .before .before .before .before .before .before .walk .ensures .says) (c .before .before .before .before .if2 .left))
-    (c .before .before .before .before .before .before .walk .ensures .counts (not-false (c .before .before .before .before .before .before .walk .result) (c .before .before .before .before .if2 .left)))
+    (told-yes (head .result) (head .ensures) (c .before .before .before .before .before .before .before .before .before .if1 .left))
+    (told-yes (walk .result) (walk .ensures .says) walked)
+    (walk .ensures .counts (not-false (walk .result) walked))
     (c .blocks-ok .ensures)
 
 pub is-sound-spec : {M : Type 1} → statement M

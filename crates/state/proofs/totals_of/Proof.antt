@@ -1,5 +1,5 @@
 -- One turn adds one block to each of the three sums.
-use Prim.Native.Nat.{ℕ, _-_}
+use Prim.Native.Nat.{_-_}
 use native.Mathlib.Omega.{arith}
 use borrow.Author.Needs.{needs}
 use Rattle.state.specs.Totals.{Summed, summed-start, summed-step, summed-end, room-few}
@@ -46,7 +46,9 @@ loop-less : tie.Need-loop-less Inv-loop μ-loop
 loop-less c = search needs
 
 loop-again : tie.Need-loop-again Inv-loop μ-loop
-loop-again c = summed-step _ _ _ _ _ _ _ _ _ (c .before .before .before .before .before .before .before .pre) (search needs) (c .before .before .before .before .before .loop .inv) (c .before .before .fill-of .ensures) (c .before .valid-of .ensures) (c .room-of .ensures)
+loop-again c =
+    summed-step _ _ _ _ _ _ _ _ _ (c .before .before .before .before .before .before .before .pre) (search needs) (c .before .before .before .before .before .loop .inv)
+    (c .before .before .fill-of .ensures) (c .before .valid-of .ensures) (c .room-of .ensures)
 
 returns : tie.Need-returns Inv-loop μ-loop
 returns c = summed-end _ _ _ _ _ _ (c .before .before .loop .inv) (search needs)

@@ -1,11 +1,9 @@
 -- Slot by slot: what is refused refuses all; what is not goes on to the next, its pages in the tally.
-use Prim.Native.Nat.{ℕ, _+_, _-_, _*_, _/_}
-use mathlib.Core.Path.{refl}
+use Prim.Native.Nat.{_+_, _-_, _*_, _/_}
 use native.Mathlib.Omega.{arith}
 use borrow.Author.Needs.{needs}
-use lib.ListN.{length, getD}
+use lib.ListN.{getD}
 use Rattle.state.specs.Says.{told-yes, told-no}
-use Rattle.state.specs.Slot.{Placed}
 use Rattle.state.specs.Walk.{Left, left-start, left-bad, left-step, left-end, walk-no}
 use Rattle.state.proofs.walk.Statement.{statement}
 use Rattle.state.proofs.walk.Tie as tie
@@ -53,10 +51,15 @@ same-length : tie.Need-same-length Inv-loop μ-loop
 same-length c = search needs
 
 returns : tie.Need-returns Inv-loop μ-loop
-returns c = walk-no (left-bad (c .before .before .before .before .before .before .loop .inv) (search needs) (told-no (c .before .row-ok .result) (c .before .row-ok .ensures) (c .if1 .taken)))
+returns c =
+    walk-no
+    (left-bad (c .before .before .before .before .before .before .loop .inv) (search needs) (told-no (c .before .row-ok .result) (c .before .row-ok .ensures) (c .if1 .taken)))
 
 home-ok-requires : tie.Need-home-ok-requires Inv-loop μ-loop
-home-ok-requires c κs = let g = told-yes (c .before .row-ok .result) (c .before .row-ok .ensures) (c  .if1 .left) in let s = c .before .before .before .before .before .before .before .before .before .before .before .pre in record { records = s .records; spares = s .spares; some = s .some; fits = g .row .inside; small = g .row .small; ends = omega arith }
+home-ok-requires c κs =
+    let g = told-yes (c .before .row-ok .result) (c .before .row-ok .ensures) (c .if1 .left) in
+    let s = c .before .before .before .before .before .before .before .before .before .before .before .pre in
+    record { records = s .records; spares = s .spares; some = s .some; fits = g .row .inside; small = g .row .small; ends = omega arith }
 
 same-length-2 : tie.Need-same-length-2 Inv-loop μ-loop
 same-length-2 c = search needs
@@ -71,10 +74,12 @@ cast-b : tie.Need-cast-b Inv-loop μ-loop
 cast-b c = let k = told-yes (c .before .home-ok .result) (c .before .home-ok .ensures) (c .if2 .left) in omega arith
 
 mul-tally : tie.Need-mul-tally Inv-loop μ-loop
-mul-tally c = let k = told-yes (c .before .home-ok .result) (c .before .home-ok .ensures) (c  .if2 .left) in omega arith
+mul-tally c = let k = told-yes (c .before .home-ok .result) (c .before .home-ok .ensures) (c .if2 .left) in omega arith
 
 slice-read-tally : tie.Need-slice-read-tally Inv-loop μ-loop
-slice-read-tally c = let k = told-yes (c .before .before .home-ok .result) (c .before .before .home-ok .ensures) (c .before .if2 .left) in omega (arith, c .before .before .before .before .before .before .before .before .before .loop .inv .wide)
+slice-read-tally c =
+    let k = told-yes (c .before .before .home-ok .result) (c .before .before .home-ok .ensures) (c .before .if2 .left) in
+    omega (arith, c .before .before .before .before .before .before .before .before .before .loop .inv .wide)
 
 add-tally : tie.Need-add-tally Inv-loop μ-loop
 add-tally c =
@@ -88,7 +93,9 @@ mul-tally-2 : tie.Need-mul-tally-2 Inv-loop μ-loop
 mul-tally-2 c = let k = told-yes (c .before .before .home-ok .result) (c .before .before .home-ok .ensures) (c .before .if2 .left) in omega arith
 
 slice-write-tally : tie.Need-slice-write-tally Inv-loop μ-loop
-slice-write-tally c = let k = told-yes (c .before .before .home-ok .result) (c .before .before .home-ok .ensures) (c .before .if2 .left) in omega (arith, c .before .before .before .before .before .before .before .before .before .loop .inv .wide)
+slice-write-tally c =
+    let k = told-yes (c .before .before .home-ok .result) (c .before .before .home-ok .ensures) (c .before .if2 .left) in
+    omega (arith, c .before .before .before .before .before .before .before .before .before .loop .inv .wide)
 
 add-lo : tie.Need-add-lo Inv-loop μ-loop
 add-lo c = let g = told-yes (c .before .before .before .before .row-ok .result) (c .before .before .before .before .row-ok .ensures) (c .before .before .before .if1 .left) in omega arith
@@ -103,7 +110,11 @@ loop-less : tie.Need-loop-less Inv-loop μ-loop
 loop-less c = search needs
 
 loop-again : tie.Need-loop-again Inv-loop μ-loop
-loop-again c = let s = c .before .before .before .before .before .before .before .before .before .before .before .before .before .before .pre in left-step (c .before .before .before .before .before .before .before .before .before .loop .inv) (search needs) (s .blocks-high) (s .pages-high) (told-yes (c .before .before .before .before .row-ok .result) (c .before .before .before .before .row-ok .ensures) (c .before .before .before .if1 .left)) (told-yes (c .before .before .home-ok .result) (c .before .before .home-ok .ensures) (c .before .if2 .left))
+loop-again c =
+    let s = c .before .before .before .before .before .before .before .before .before .before .before .before .before .before .pre in
+    left-step (c .before .before .before .before .before .before .before .before .before .loop .inv) (search needs) (s .blocks-high) (s .pages-high)
+    (told-yes (c .before .before .before .before .row-ok .result) (c .before .before .before .before .row-ok .ensures) (c .before .before .before .if1 .left))
+    (told-yes (c .before .before .home-ok .result) (c .before .before .home-ok .ensures) (c .before .if2 .left))
 
 same-length-3 : tie.Need-same-length-3 Inv-loop μ-loop
 same-length-3 c = search needs
