@@ -1,7 +1,7 @@
 -- What a cut leaves of the extents, by slots: those that start before l with the last of them clipped on the right, and those that end
 -- after e begins with the first of them clipped on the left.
 use Prim.Native.Nat.{ℕ, zero, suc, _+_, _-_, _≤_, _<_, min, max}
-use mathlib.Core.Path.{_≡_, refl, sym, ap, ap₂, _∙_}
+use mathlib.Core.Path.{_≡_, refl, sym, ap, ap₂, _∙_, subst}
 use mathlib.Core.List.{List, [], _∷_, _++_}
 use mathlib.Core.Logic.{by-cases}
 use native.Mathlib.Omega.{arith}
@@ -9,15 +9,18 @@ use native.Mathlib.Decide.{decLt}
 use borrow.Author.Tests.{lt-ltb, le-ltb}
 use lib.Dec.{ltb}
 use lib.ListN.{length, getD, take, drop, set, length-set}
-use lib.Seq.{take-set-le, drop-set-lt, drop-set-add, drop-cons, getD-set-same, getD-set-other}
+use lib.Seq.{take-set-le, drop-set-lt, drop-set-add, drop-cons, getD-set-same, getD-set-other, set-getD}
 use Rattle.rules.specs.Counting.{one}
-use Rattle.rules.specs.Extents.{none, extent, end}
+use Rattle.rules.specs.Extents.{none, extent, end, slot, slots}
 use Rattle.rules.specs.declared.Extent.{Extent}
 use Rattle.laws.specs.Rows.{Rows}
 use Rattle.laws.specs.Sums.{one-le}
 use Rattle.laws.specs.Unique.{extent-path}
 use Rattle.laws.specs.Cut.{below, from, cut, below-none, below-part, below-all, from-none, from-part, from-all}
+use Rattle.laws.specs.Slots.{slots-at, slots-length}
 use Rattle.laws.specs.Counts.{startsBefore, endsAfter, tally, tally-le, starts-none, ends-all}
+use Rattle.map.specs.Sound.{Sound}
+use Rattle.map.specs.Padded.{padded, Holds}
 
 -- an extent's part below l
 abbrev pub upTo : ℕ → Extent → Extent
@@ -38,6 +41,10 @@ clipRight l (suc i) es = set es i (upTo l (getD es i blank))
 -- the first from slot z on clipped on the left
 unfoldable pub clipLeft : ℕ → ℕ → List Extent → List Extent
 clipLeft e z es = set es z (onFrom e (getD es z blank))
+
+-- slot i taken apart
+unfoldable pub splitAt : ℕ → ℕ → ℕ → List Extent → List Extent
+splitAt l e i es = take (i + 1) (set es i (upTo l (getD es i blank))) ++ onFrom e (getD es i blank) ∷ drop (i + 1) es
 
 -- ---- what lies below l: a extents start before it
 
@@ -129,8 +136,8 @@ module _ (n hi l e : ℕ) (es : List Extent) (a z : ℕ) (h : Rows n 0 none hi e
       ∙ set-drop z es (clipRight l a es) x (sym (right-drop l a z es s))))
 
   -- one extent lies on both sides
-  pub cut-split : a ≡ z + 1 → (take (z + 1) (set es z (upTo l (getD es z blank)))) ++ onFrom e (getD es z blank) ∷ drop (z + 1) es ≡ cut l e es
-  unfolding cut clipLeft clipRight
+  pub cut-split : a ≡ z + 1 → splitAt l e z es ≡ cut l e es
+  unfolding cut clipLeft clipRight splitAt
   cut-split s =
       let x = getD es z blank in
       let one : a ≡ suc z = omega arith in
@@ -140,3 +147,57 @@ module _ (n hi l e : ℕ) (es : List Extent) (a z : ℕ) (h : Rows n 0 none hi e
       (from-drop n hi e es z h after ∙ drop-cons (set es z (onFrom e x)) z blank (omega (arith, length-set es z (onFrom e x)))
       ∙ ap₂ (λ (y : Extent) (ys : List Extent). y ∷ ys) (getD-set-same es z (onFrom e x) blank (omega arith))
       (drop-set-lt (suc z) es z (onFrom e x) (omega arith) ∙ ap (λ (k : ℕ). drop k es) (sym one ∙ s))))
+
+-- ---- where the extents lie that are clipped
+
+starts-at : (n hi l : ℕ) (es : List Extent) (lo q i : ℕ) → Rows n lo q hi es → i < startsBefore l es → getD es i blank .logical < l
+unfolding tally
+starts-at n hi l [] lo q i h s = absurd (omega arith)
+starts-at n hi l (x ∷ xs) lo q zero h s =
+    by-cases (decLt (x .logical) l)
+    (λ t. t)
+    (λ t. absurd (omega (arith, ap one (le-ltb (x .logical) l (omega arith)), starts-none n hi l xs _ _ (h .1) (omega arith))))
+starts-at n hi l (x ∷ xs) lo q (suc i) h s = starts-at n hi l xs _ _ i (h .1) (omega (arith, one-le (ltb (x .logical) l)))
+
+ends-at : (n hi e : ℕ) (es : List Extent) (lo q z : ℕ) → Rows n lo q hi es → z + endsAfter e es ≡ length es → z < length es → e < end (getD es z blank)
+unfolding tally
+ends-at n hi e [] lo q z h g s = absurd (omega arith)
+ends-at n hi e (x ∷ xs) lo q zero h g s =
+    by-cases (decLt e (end x))
+    (λ t. t)
+    (λ t. absurd (omega (arith, ap one (le-ltb e (end x) (omega arith)), tally-le (λ y. ltb e (end y)) xs)))
+ends-at n hi e (x ∷ xs) lo q (suc z) h g s =
+    by-cases (decLt e (end x))
+    (λ t. absurd (omega (arith, ap one (lt-ltb e (end x) t), ends-all n hi e xs _ _ (h .1) (omega arith))))
+    (λ t. ends-at n hi e xs _ _ z (h .1) (omega (arith, ap one (le-ltb e (end x) (omega arith)))) (omega arith))
+
+-- ---- the same on the words that hold them
+
+module _ (ws : List ℕ) (u : ℕ) where
+  at-slot : (i : ℕ) → i < u → getD (slots ws 0 u) i blank ≡ slot ws i
+  at-slot i h = slots-at ws 0 u i i blank h (omega arith)
+
+  module _ (s : Sound (slots ws 0 u)) where
+    pub sound-starts : (l i : ℕ) → i < startsBefore l (slots ws 0 u) → slot ws i .logical < l
+    sound-starts l i h =
+        let b = tally-le (λ y. ltb (y .logical) l) (slots ws 0 u) in
+        subst (λ (x : Extent). x .logical < l) (at-slot i (omega (arith, slots-length ws 0 u))) (starts-at (s .pages) (s .logical) l (slots ws 0 u) 0 none i (s .rows) h)
+
+    pub sound-ends : (e z : ℕ) → z + endsAfter e (slots ws 0 u) ≡ u → z < u → e < end (slot ws z)
+    sound-ends e z g h =
+        subst (λ (x : Extent). e < end x) (at-slot z h)
+        (ends-at (s .pages) (s .logical) e (slots ws 0 u) 0 none z (s .rows) (g ∙ sym (slots-length ws 0 u)) (omega (arith, slots-length ws 0 u)))
+
+  -- the clips, as the code leaves them
+  module _ (h : Holds ws u) where
+    pub right-none : (l a : ℕ) → a < 1 → ws ≡ padded (length ws) (clipRight l a (slots ws 0 u))
+    unfolding clipRight
+    right-none l a s = let e : a ≡ 0 = omega arith in rw e (h .is)
+
+    pub right-same : (l a : ℕ) → 1 ≤ a → a ≤ u → end (slot ws (a - 1)) ≤ l → ws ≡ padded (length ws) (clipRight l a (slots ws 0 u))
+    unfolding clipRight
+    right-same l a s t b =
+        let e : a ≡ suc (a - 1) = omega arith in
+        let x = at-slot (a - 1) (omega arith) in
+        rw e (h .is ∙ ap (padded (length ws)) (sym (set-getD (slots ws 0 u) (a - 1) blank)
+        ∙ ap (set (slots ws 0 u) (a - 1)) (extent-path (getD (slots ws 0 u) (a - 1) blank) (upTo l (getD (slots ws 0 u) (a - 1) blank)) refl refl (rw x (omega arith)))))

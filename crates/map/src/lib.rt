@@ -2,10 +2,15 @@
 // what the blocks lose by it. What stands in the slots in use is sound where a contract asks for rows; every function leaves it so.
 ghost use mathlib.Core.Path.{_≡_};
 ghost use Prim.Native.Nat.{_+_, _-_, _*_, _<_, _≤_, _^_};
-ghost use lib.ListN.{length};
+ghost use mathlib.Core.List.{_∷_, _++_};
+ghost use lib.ListN.{length, take, drop, set};
 ghost use Rattle.rules.specs.Extents.{extent, end, slot, slots};
 ghost use Rattle.laws.specs.Counts.{startsBefore, endsAfter};
+ghost use Rattle.laws.specs.Cut.{cut};
+ghost use Rattle.map.specs.Sound.{Sound, Piece};
 ghost use Rattle.map.specs.Around.{joinsBefore};
+ghost use Rattle.map.specs.Padded.{padded, Holds};
+ghost use Rattle.map.specs.Clip.{clipRight, clipLeft};
 
 // Where slot i ends, as a whole number.
 pub fn end_of(ext: &[u32], i: usize) -> u64
@@ -62,4 +67,37 @@ pub fn joins_left(ext: &[u32], before: usize, pages: u32, l: u32, p: u32) -> boo
         return false;
     }
     q / pages == p / pages
+}
+
+// ---- one slot, and the slots behind it
+
+// Slot i becomes (l, p, c).
+fn put(ext: &mut [u32], used: usize, i: usize, l: u32, p: u32, c: u32)
+    requires { ⌜ Holds (now ext) used × (i < used) ⌝ }
+    ensures { λ _. ⌜ now (ext .exit) ≡ padded (length (now (ext .entry))) (set (slots (now (ext .entry)) 0 used) i (extent l p c)) ⌝ }
+{
+    let at = 3 * i;
+    ext[at] = l;
+    ext[at + 1] = p;
+    ext[at + 2] = c;
+}
+
+// (l, p, c) comes in at slot i, and the slots from there on move up.
+fn insert(ext: &mut [u32], used: usize, i: usize, l: u32, p: u32, c: u32)
+    requires { ⌜ Holds (now ext) used × (i ≤ used) × (3 * used + 3 ≤ length (now ext)) ⌝ }
+    ensures { λ _. ⌜ now (ext .exit) ≡ padded (length (now (ext .entry))) (take i (slots (now (ext .entry)) 0 used) ++ extent l p c ∷ drop i (slots (now (ext .entry)) 0 used)) ⌝ }
+{
+    let at = 3 * i;
+    let top = 3 * used + 3;
+    words::shift_up(&mut ext[at..top], l, p, c);
+}
+
+// The slots from a up to z go, and those from z on move down.
+fn close(ext: &mut [u32], used: usize, a: usize, z: usize)
+    requires { ⌜ Holds (now ext) used × (a ≤ z) × (z ≤ used) ⌝ }
+    ensures { λ _. ⌜ now (ext .exit) ≡ padded (length (now (ext .entry))) (take a (slots (now (ext .entry)) 0 used) ++ drop z (slots (now (ext .entry)) 0 used)) ⌝ }
+{
+    let at = 3 * a;
+    let top = 3 * used;
+    words::shift_down(&mut ext[at..top], 3 * (z - a));
 }
