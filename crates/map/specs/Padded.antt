@@ -52,6 +52,11 @@ module _ (m : ℕ) (es : List Extent) (ws : List ℕ) (u : ℕ) (e : ws ≡ padd
   pub became-holds : Holds ws u
   became-holds = record { fits = omega (arith, became-length); is = e ∙ ap₂ padded (sym became-length) (sym became-slots) }
 
+-- m words that have come to hold es in their first r slots
+pub record Becomes (m : ℕ) (es : List Extent) (ws : List ℕ) (r : ℕ) : Type 0 where
+  pub is : ws ≡ padded m es
+  pub used : r ≡ length es
+
 -- ---- one slot stored
 
 flat-set : (es : List Extent) (i k l p c : ℕ) (z : List ℕ) → i < length es → k ≡ 3 * i → sets (flat es ++ z) k (l ∷ p ∷ c ∷ []) ≡ flat (set es i (extent l p c)) ++ z
