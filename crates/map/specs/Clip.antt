@@ -108,7 +108,7 @@ unfolding clipLeft
 clip-left-length e z es = length-set es z (onFrom e (getD es z blank))
 
 -- clipped before, the first from slot z on is as it was
-right-at : (l a z : ℕ) (es : List Extent) → a ≤ z → getD (clipRight l a es) z blank ≡ getD es z blank
+pub right-at : (l a z : ℕ) (es : List Extent) → a ≤ z → getD (clipRight l a es) z blank ≡ getD es z blank
 unfolding clipRight
 right-at l zero z es h = refl
 right-at l (suc i) z es h = getD-set-other es i z (upTo l (getD es i blank)) blank (omega arith)
@@ -174,7 +174,7 @@ ends-at n hi e (x ∷ xs) lo q (suc z) h g s =
 -- ---- the same on the words that hold them
 
 module _ (ws : List ℕ) (u : ℕ) where
-  at-slot : (i : ℕ) → i < u → getD (slots ws 0 u) i blank ≡ slot ws i
+  pub at-slot : (i : ℕ) → i < u → getD (slots ws 0 u) i blank ≡ slot ws i
   at-slot i h = slots-at ws 0 u i i blank h (omega arith)
 
   module _ (s : Sound (slots ws 0 u)) where

@@ -2,3 +2,4 @@ pub mod Sound
 pub mod Around
 pub mod Padded
 pub mod Clip
+pub mod Cutting

@@ -7,10 +7,11 @@ ghost use lib.ListN.{length, take, drop, set};
 ghost use Rattle.rules.specs.Extents.{extent, end, slot, slots};
 ghost use Rattle.laws.specs.Counts.{startsBefore, endsAfter};
 ghost use Rattle.laws.specs.Cut.{cut};
-ghost use Rattle.map.specs.Sound.{Sound, Piece};
+ghost use Rattle.map.specs.Sound.{Piece};
 ghost use Rattle.map.specs.Around.{joinsBefore};
 ghost use Rattle.map.specs.Padded.{padded, Holds, Becomes};
 ghost use Rattle.map.specs.Clip.{clipRight, clipLeft, splitAt};
+ghost use Rattle.map.specs.Cutting.{Cuttable};
 
 // Where slot i ends, as a whole number.
 pub fn end_of(ext: &[u32], i: usize) -> u64
@@ -155,7 +156,7 @@ fn split(ext: &mut [u32], used: usize, i: usize, l: u32, e: u32)
 
 // The extents without the logical pages from l up to e. The slots then in use are returned.
 pub fn cut_out(ext: &mut [u32], used: usize, l: u32, e: u32) -> usize
-    requires { ⌜ Holds (now ext) used × Sound (slots (now ext) 0 used) × (l < e) × (3 * length (cut l e (slots (now ext) 0 used)) ≤ length (now ext)) ⌝ }
+    requires { ⌜ Cuttable (now ext) used l e ⌝ }
     ensures { λ r. ⌜ Becomes (length (now (ext .entry))) (cut l e (slots (now (ext .entry)) 0 used)) (now (ext .exit)) r ⌝ }
 {
     let sides = around(ext, used, l, e);

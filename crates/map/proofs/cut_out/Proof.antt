@@ -1,61 +1,74 @@
+-- The steps of `Cutting`: the extent on both sides taken apart, or each side clipped and the gap closed.
+use Rattle.map.specs.Cutting.{after-le, split-ready, split-done, right-ready, left-ready, close-ready, cut-done}
+use native.Mathlib.Omega.{arith}
 use borrow.Author.Needs.{needs}
 use Rattle.map.proofs.cut_out.Statement.{statement}
 use Rattle.map.proofs.cut_out.Tie as tie
-use Rattle.map.proofs.cut_out.Reads as reads
-use Rattle.map.proofs.cut_out.Lts as lts
-use Rattle.map.proofs.around.Reads as around-reads
-use Rattle.map.proofs.clip_left.Reads as clip-left-reads
-use Rattle.map.proofs.clip_right.Reads as clip-right-reads
-use Rattle.map.proofs.close.Reads as close-reads
-use Rattle.map.proofs.split.Reads as split-reads
 
--- src/lib.rt:161:9
 around-requires : tie.Need-around-requires
 around-requires c κs = search needs
 
--- src/lib.rt:163:13
 sub-z : tie.Need-sub-z
-sub-z c = ?
+sub-z c =
+    let s = c .before .before .before .before in
+    let a = s .args in
+    let r = c .before .around in
+    omega (arith, after-le (a .ext .now) (a .used) (a .l) (a .e) _ _ (s .pre) (r .ensures .0) (r .ensures .1))
 
--- src/lib.rt:165:9
 split-requires : tie.Need-split-requires
-split-requires c κs = ?
+split-requires c κs =
+    let s = c .before .before .before .before .before .before in
+    let a = s .args in
+    let r = c .before .before .before .around in
+    split-ready (a .ext .now) (a .used) (a .l) (a .e) _ _ (s .pre) (r .ensures .0) (r .ensures .1) (omega arith)
 
--- src/lib.rt:166:16
 add-result : tie.Need-add-result
 add-result c = search needs
 
--- src/lib.rt:166:9
 same-length : tie.Need-same-length
 same-length c = search needs
 
--- src/lib.rt:166:9
 returns : tie.Need-returns
-returns c = ?
+returns c =
+    let s = c .before .before .before .before .before .before .before .before .before in
+    let a = s .args in
+    let r = c .before .before .before .before .before .before .around in
+    split-done (a .ext .now) (a .used) (a .l) (a .e) _ _ (s .pre) (r .ensures .0) (r .ensures .1) (omega arith) _ (c .before .before .split .ensures)
 
--- src/lib.rt:168:5
 clip-right-requires : tie.Need-clip-right-requires
-clip-right-requires c κs = ?
+clip-right-requires c κs =
+    let s = c .before .before .before .before .before .before in
+    let a = s .args in
+    let r = c .before .before .before .around in
+    right-ready (a .ext .now) (a .used) (a .l) (a .e) _ _ (s .pre) (r .ensures .0) (r .ensures .1) (omega arith)
 
--- src/lib.rt:169:5
 clip-left-requires : tie.Need-clip-left-requires
-clip-left-requires c κs = ?
+clip-left-requires c κs =
+    let s = c .before .before .before .before .before .before .before .before .before .before in
+    let a = s .args in
+    let r = c .before .before .before .before .before .before .before .around in
+    left-ready (a .ext .now) (a .used) (a .l) (a .e) _ _ (s .pre) (r .ensures .0) (r .ensures .1) (omega arith) _ (c .before .before .before .clip-right .ensures)
 
--- src/lib.rt:170:5
 close-requires : tie.Need-close-requires
-close-requires c κs = ?
+close-requires c κs =
+    let s = c .before .before .before .before .before .before .before .before .before .before .before .before .before .before in
+    let a = s .args in
+    let r = c .before .before .before .before .before .before .before .before .before .before .before .around in
+    close-ready (a .ext .now) (a .used) (a .l) (a .e) _ _ (s .pre) (r .ensures .0) (r .ensures .1) (omega arith) _ (c .before .before .before .before .before .before .before .clip-right .ensures) _ (c .before .before .before .clip-left .ensures)
 
--- src/lib.rt:171:5
 add-result-2 : tie.Need-add-result-2
 add-result-2 c = search needs
 
--- src/lib.rt:157:1
 same-length-2 : tie.Need-same-length-2
 same-length-2 c = search needs
 
--- src/lib.rt:157:1
 returns-2 : tie.Need-returns-2
-returns-2 c = ?
+returns-2 c =
+    let s = c .before .before .before .before .before .before .before .before .before .before .before .before .before .before .before .before .before .before in
+    let a = s .args in
+    let r = c .before .before .before .before .before .before .before .before .before .before .before .before .before .before .before .around in
+    cut-done (a .ext .now) (a .used) (a .l) (a .e) _ _ (s .pre) (r .ensures .0) (r .ensures .1) (omega arith) _ (c .before .before .before .before .before .before .before .before .before .before .before .clip-right .ensures) _ (c .before .before .before .before .before .before .before .clip-left .ensures)
+    _ (c .before .before .before .close .ensures)
 
 pub cut-out-spec : {M : Type 1} → statement M
 cut-out-spec =
