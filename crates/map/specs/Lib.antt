@@ -3,3 +3,4 @@ pub mod Around
 pub mod Padded
 pub mod Clip
 pub mod Cutting
+pub mod Pieces
