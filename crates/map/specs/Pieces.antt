@@ -1,7 +1,7 @@
 -- Pieces put in between what a cut left, the first of them joined to the extent in front of it where it goes on there; and that this is
 -- what a write makes of the extents.
 use Prim.Native.Nat.{ℕ, zero, suc, _+_, _-_, _*_, _%_, _≤_, _<_, _^_}
-use mathlib.Core.Path.{_≡_, refl, sym, ap, ap₂, _∙_}
+use mathlib.Core.Path.{_≡_, refl, sym, ap, ap₂, _∙_, subst₂}
 use mathlib.Core.Bool.{Bool, true, false}
 use mathlib.Core.List.{List, [], _∷_, _++_, append-assoc}
 use native.Mathlib.Omega.{arith}
@@ -181,3 +181,51 @@ unfolding lengthened
 lengthened-set ws u i c ws′ s t g =
     let e : i ≡ suc (i - 1) = omega arith in
     rw e (g ∙ ap (λ (x : Extent). padded (length ws) (set (slots ws 0 u) (i - 1) (longer c x))) (sym (at-slot ws u (i - 1) (omega arith))))
+
+first-piece : (new : List ℕ) (k : ℕ) → 1 ≤ k → slots new 0 k ≡ slot new 0 ∷ slots new 1 (k - 1)
+unfolding slots
+first-piece new k h = let e : k ≡ suc (k - 1) = omega arith in ap (slots new 0) e
+
+module _ (ws : List ℕ) (u before : ℕ) (joined : Bool) (new : List ℕ) (k : ℕ) (p : Puttable ws u before joined new k) where
+  abbrev old : List Extent
+  old = slots ws 0 u
+
+  -- no piece is joined
+  module _ (j : joined ≡ false) where
+    pub apart-ready : Holds ws u × (before ≤ u) × (0 ≤ k) × (3 * k ≤ length new) × (3 * (u + (k - 0)) ≤ length ws)
+    apart-ready = (p .held, p .within, omega arith, p .fits, omega (arith, p .room, ap one j))
+
+    pub apart-done : (ws′ : List ℕ) (r : ℕ) → Becomes (length ws) (spliced before (slots new 0 (k - 0)) old) ws′ r
+        → Becomes (length ws) (putIn before joined (slots new 0 k) old) ws′ r
+    unfolding putIn
+    apart-done ws′ r h = let e : k - 0 ≡ k = omega arith in rw (j, ← e) h
+
+  -- the first is
+  module _ (j : joined ≡ true) where
+    pub joined-ready : Holds ws u × (1 ≤ before) × (before ≤ u) × (slot ws (before - 1) .count + slot new 0 .count < 2 ^ 32)
+    joined-ready = let q = p .joins j in (p .held, q .0, p .within, q .1)
+
+    module _ (mid : List ℕ) (g : mid ≡ padded (length ws) (lengthened before (slot new 0 .count) old)) where
+      as-many : length (lengthened before (slot new 0 .count) old) ≡ u
+      as-many = lengthened-length before (slot new 0 .count) old ∙ slots-length ws 0 u
+
+      words : length mid ≡ length ws
+      words = became-length (length ws) (lengthened before (slot new 0 .count) old) mid u g as-many (p .held .fits)
+
+      pub joined-next : Holds mid u × (before ≤ u) × (1 ≤ k) × (3 * k ≤ length new) × (3 * (u + (k - 1)) ≤ length mid)
+      joined-next = (
+        became-holds (length ws) (lengthened before (slot new 0 .count) old) mid u g as-many (p .held .fits),
+        p .within,
+        p .some,
+        p .fits,
+        omega (arith, p .some, p .room, ap one j, words),
+      )
+
+      pub joined-done : (ws′ : List ℕ) (r : ℕ) → Becomes (length mid) (spliced before (slots new 1 (k - 1)) (slots mid 0 u)) ws′ r
+          → Becomes (length ws) (putIn before joined (slots new 0 k) old) ws′ r
+      unfolding putIn
+      joined-done ws′ r h =
+          let e : spliced before (slots new 1 (k - 1)) (slots mid 0 u) ≡ putIn before joined (slots new 0 k) old =
+          ap (spliced before (slots new 1 (k - 1))) (became-slots (length ws) (lengthened before (slot new 0 .count) old) mid u g as-many (p .held .fits))
+          ∙ sym (ap₂ (λ (b : Bool) (xs : List Extent). putIn before b xs old) j (first-piece new k (p .some))) in
+          subst₂ (λ (m : ℕ) (xs : List Extent). Becomes m xs ws′ r) words e h

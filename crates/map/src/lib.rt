@@ -211,10 +211,10 @@ pub fn put_pieces(ext: &mut [u32], used: usize, before: usize, joined: bool, new
     requires { ⌜ Puttable (now ext) used before joined (now new) k ⌝ }
     ensures { λ r. ⌜ Becomes (length (now (ext .entry))) (putIn before joined (slots (now (new .entry)) 0 k) (slots (now (ext .entry)) 0 used)) (now (ext .exit)) r ⌝ }
 {
-    if !joined {
-        return splice(ext, used, before, new, 0, k);
+    if joined {
+        let c = new[2];
+        lengthen(ext, used, before, c);
+        return splice(ext, used, before, new, 1, k);
     }
-    let c = new[2];
-    lengthen(ext, used, before, c);
-    splice(ext, used, before, new, 1, k)
+    splice(ext, used, before, new, 0, k)
 }

@@ -1,98 +1,95 @@
+-- Each piece comes in behind the one before it.
+use Prim.Native.Nat.{_+_, _-_, _*_, _≤_}
+use mathlib.Core.Path.{_≡_, refl}
+use lib.ListN.{length}
+use Rattle.rules.specs.Extents.{slots}
+use Rattle.map.specs.Padded.{padded}
+use Rattle.map.specs.Pieces.{spliced, splice-start, splice-holds, splice-more, splice-end}
+use borrow.Author.Needs.{needs}
+use native.Mathlib.Omega.{arith}
 use Rattle.map.proofs.splice.Statement.{statement}
 use Rattle.map.proofs.splice.Tie as tie
-use Rattle.map.proofs.splice.Reads as reads
-use Rattle.map.proofs.splice.Lts as lts
-use Rattle.map.proofs.insert.Reads as insert-reads
 
 abbrev Inv-loop : tie.InvT-loop
-Inv-loop ext₀ used i new s k d₀ ext d = ?
+Inv-loop ext₀ used i new s k d₀ ext d = (d ≤ k - s) × (length ext ≡ length ext₀) × (ext ≡ padded (length ext₀) (spliced i (slots new s d) (slots ext₀ 0 used)))
 
 abbrev μ-loop : tie.MeasureT-loop
-μ-loop ext₀ used i new s k d₀ ext d = ?
+μ-loop ext₀ used i new s k d₀ ext d = k - s - d
 
--- src/lib.rt:197:5
 loop-holds : tie.Need-loop-holds Inv-loop μ-loop
-loop-holds c = ?
+loop-holds c = (search needs, refl, splice-start (c .before .before .args .ext .now) (c .before .before .args .used) _ _ _ (c .before .before .pre .0) (omega arith))
 
--- src/lib.rt:197:15
 sub-loop : tie.Need-sub-loop Inv-loop μ-loop
-sub-loop c = ?
+sub-loop c = search needs
 
--- src/lib.rt:198:23
 add-at : tie.Need-add-at Inv-loop μ-loop
-add-at c = ?
+add-at c = search needs
 
--- src/lib.rt:198:18
 mul-at : tie.Need-mul-at Inv-loop μ-loop
-mul-at c = ?
+mul-at c = search needs
 
--- src/lib.rt:199:17
 mul-l : tie.Need-mul-l Inv-loop μ-loop
-mul-l c = ?
+mul-l c = search needs
 
--- src/lib.rt:199:17
 shared-slice-read-l : tie.Need-shared-slice-read-l Inv-loop μ-loop
-shared-slice-read-l c = ?
+shared-slice-read-l c = search needs
 
--- src/lib.rt:200:21
 add-p : tie.Need-add-p Inv-loop μ-loop
-add-p c = ?
+add-p c = search needs
 
--- src/lib.rt:200:17
 mul-p : tie.Need-mul-p Inv-loop μ-loop
-mul-p c = ?
+mul-p c = search needs
 
--- src/lib.rt:200:17
 shared-slice-read-p : tie.Need-shared-slice-read-p Inv-loop μ-loop
-shared-slice-read-p c = ?
+shared-slice-read-p c = search needs
 
--- src/lib.rt:201:21
 add-c : tie.Need-add-c Inv-loop μ-loop
-add-c c = ?
+add-c c = search needs
 
--- src/lib.rt:201:17
 mul-c : tie.Need-mul-c Inv-loop μ-loop
-mul-c c = ?
+mul-c c = search needs
 
--- src/lib.rt:201:17
 shared-slice-read-c : tie.Need-shared-slice-read-c Inv-loop μ-loop
-shared-slice-read-c c = ?
+shared-slice-read-c c = search needs
 
--- src/lib.rt:202:21
 add-insert : tie.Need-add-insert Inv-loop μ-loop
-add-insert c = ?
+add-insert c = search needs
 
--- src/lib.rt:202:31
 add-insert-2 : tie.Need-add-insert-2 Inv-loop μ-loop
-add-insert-2 c = ?
+add-insert-2 c = search needs
 
--- src/lib.rt:202:9
 insert-requires : tie.Need-insert-requires Inv-loop μ-loop
-insert-requires c κs = ?
+insert-requires c κs =
+    let a = c .before .before .before .before .before .before .before .before .args in
+    let o = c .before .before .before .before .before .loop in
+    (splice-holds (a .ext .now) (a .used) (a .i) (a .new .now) (a .s) (c .before .before .before .before .before .before .before .before .pre .0) (omega arith) (o .d) (omega arith) (o .ext) (o .inv .2), omega arith, omega arith)
 
--- src/lib.rt:203:9
 add-d : tie.Need-add-d Inv-loop μ-loop
-add-d c = ?
+add-d c = search needs
 
--- src/lib.rt:197:5
 loop-less : tie.Need-loop-less Inv-loop μ-loop
-loop-less c = ?
+loop-less c = search needs
 
--- src/lib.rt:197:5
 loop-again : tie.Need-loop-again Inv-loop μ-loop
-loop-again c = ?
+loop-again c =
+    let a = c .before .before .before .before .before .before .before .before .before .before .before .args in
+    let o = c .before .before .before .before .before .before .before .before .loop in (
+      search needs,
+      search needs,
+      splice-more (a .ext .now) (a .used) (a .i) (a .new .now) (a .s) (c .before .before .before .before .before .before .before .before .before .before .before .pre .0) (omega arith) (o .d) (omega arith) (o .ext) (o .inv .2) _ (c .before .before .insert .ensures),
+    )
 
--- src/lib.rt:205:5
 add-result : tie.Need-add-result Inv-loop μ-loop
-add-result c = ?
+add-result c = search needs
 
--- src/lib.rt:192:1
 same-length : tie.Need-same-length Inv-loop μ-loop
-same-length c = ?
+same-length c = search needs
 
--- src/lib.rt:192:1
 returns : tie.Need-returns Inv-loop μ-loop
-returns c = ?
+returns c =
+    let a = c .before .before .before .before .args in
+    let o = c .before .loop in
+    splice-end (a .ext .now) (a .used) (a .i) (a .new .now) (a .s) (c .before .before .before .before .pre .0) (omega arith) (o .d) (omega arith) (o .ext) (o .inv .2) _ _ (omega arith) (omega arith)
 
 pub splice-spec : {M : Type 1} → statement M
 splice-spec =
