@@ -4,3 +4,4 @@ pub mod Padded
 pub mod Clip
 pub mod Cutting
 pub mod Pieces
+pub mod Placing
