@@ -84,7 +84,7 @@ ends-all n hi b [] lo q h s = refl
 ends-all n hi b (e ∷ es) lo q h s =
     omega (arith, ap one (lt-ltb b (end e) (omega arith)), ends-all n hi b es _ _ (h .1) (omega arith))
 
-not-next : (n : ℕ) (e f : Extent) → (f .logical ≡ e .logical + e .count → ⊥) → joinable n e f ≡ false
+pub not-next : (n : ℕ) (e f : Extent) → (f .logical ≡ e .logical + e .count → ⊥) → joinable n e f ≡ false
 not-next n e f h = never (joinable n e f) (λ j. h (joinable-true n e f j .logical))
 
 joins-none : (n hi : ℕ) (f : Extent) (es : List Extent) (lo q : ℕ) → Rows n lo q hi es → f .logical ≤ lo → leftJoin n f es ≡ 0
@@ -175,7 +175,7 @@ unfolding joinable
 joinable-count n x z c = refl
 
 -- an extent that was not joinable with z is not joinable with what z has become
-join-next : (n : ℕ) (x z : Extent) (ys : List Extent) → joinable n x z ≡ false → join n x (join n z ys) ≡ x ∷ join n z ys
+pub join-next : (n : ℕ) (x z : Extent) (ys : List Extent) → joinable n x z ≡ false → join n x (join n z ys) ≡ x ∷ join n z ys
 unfolding join
 join-next n x z [] e = join-apart n x z [] e
 join-next n x z (y ∷ ys) e =
@@ -200,7 +200,7 @@ glue-length n m (x ∷ z ∷ zs) f ys lo q h s =
     (omega (arith, ap one (not-next n x f (omega arith)), glue-length n m (z ∷ zs) f ys _ _ (h .1) s))
 
 -- the part of an extent that a cut leaves before a is joinable with f only where f's page was a's before
-below-joins : (n hi a : ℕ) (f : Extent) (es : List Extent) (lo q : ℕ) → Rows n lo q hi es → f .logical ≡ a → (lookup es a ≡ f .physical → f .physical % n ≡ 0)
+pub below-joins : (n hi a : ℕ) (f : Extent) (es : List Extent) (lo q : ℕ) → Rows n lo q hi es → f .logical ≡ a → (lookup es a ≡ f .physical → f .physical % n ≡ 0)
     → leftJoin n f (below a es) ≡ leftJoin n f es
 unfolding below tally
 below-joins n hi a f [] lo q h d m = refl
@@ -226,7 +226,7 @@ below-joins n hi a f (e ∷ es) lo q h d m =
 module _ (n hi a b : ℕ) (f : Extent) (fs es : List Extent) (e : b ≤ hi) (w : Rows n a none b (f ∷ fs)) (h : Rows n 0 none hi es)
     (at : f .logical ≡ a) (left : lookup es a ≡ f .physical → f .physical % n ≡ 0)
     (right : lookup es b ≡ tip none (f ∷ fs) → tip none (f ∷ fs) % n ≡ 0) where
-  no-right : glue n (f ∷ fs) (from b es) ≡ f ∷ fs ++ from b es
+  pub no-right : glue n (f ∷ fs) (from b es) ≡ f ∷ fs ++ from b es
   no-right =
       glue-chain n hi (f ∷ fs) (from b es) a none
       (rows-chain n b hi (f ∷ fs) (from b es) a none none w (from-rows n hi b es 0 none e h)

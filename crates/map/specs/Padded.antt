@@ -1,11 +1,11 @@
 -- Words that hold extents, three a slot, and zeros behind them; and what a store of one slot, an insertion and a removal make of them.
 use Prim.Native.Nat.{ℕ, zero, suc, _+_, _-_, _*_, _≤_, _<_}
 use mathlib.Core.Path.{_≡_, refl, sym, ap, ap₂, _∙_}
-use mathlib.Core.List.{List, [], _∷_, _++_, append-assoc}
+use mathlib.Core.List.{List, [], _∷_, _++_, append-assoc, append-nil}
 use native.Mathlib.Omega.{arith}
 use borrow.Rule.Slice.PartMut.{midOf, putMid}
-use lib.ListN.{length, getD, take, drop, set, replicate, length-append, length-take, length-drop, length-replicate, length-set, getD-replicate, take-append-drop, replicate-append-replicate}
-use lib.Seq.{sets, ext-getD, getD-drop, take-at, drop-at, drop-drop, take-append-le, length-take-le}
+use lib.ListN.{length, getD, take, drop, set, replicate, length-append, length-drop, length-replicate, length-set, getD-replicate, take-append-drop, replicate-append-replicate}
+use lib.Seq.{sets, ext-getD, getD-drop, take-at, drop-at, drop-drop, take-append-add, drop-append-add, length-take-le}
 use Rattle.rules.specs.Extents.{extent, slot, slots, flat}
 use Rattle.rules.specs.declared.Extent.{Extent}
 use Rattle.laws.specs.Slots.{flat-length, flat-append, flat-take, flat-drop, slots-flat, flat-slots, slots-at, slots-length}
@@ -52,6 +52,11 @@ module _ (m : ℕ) (es : List Extent) (ws : List ℕ) (u : ℕ) (e : ws ≡ padd
   pub became-holds : Holds ws u
   became-holds = record { fits = omega (arith, became-length); is = e ∙ ap₂ padded (sym became-length) (sym became-slots) }
 
+-- m words that have come to hold es in their first r slots
+pub record Becomes (m : ℕ) (es : List Extent) (ws : List ℕ) (r : ℕ) : Type 0 where
+  pub is : ws ≡ padded m es
+  pub used : r ≡ length es
+
 -- ---- one slot stored
 
 flat-set : (es : List Extent) (i k l p c : ℕ) (z : List ℕ) → i < length es → k ≡ 3 * i → sets (flat es ++ z) k (l ∷ p ∷ c ∷ []) ≡ flat (set es i (extent l p c)) ++ z
@@ -73,3 +78,77 @@ holds-set ws u i l p c h s =
     let b : 3 * i + 2 ≡ suc (suc (3 * i)) = omega arith in
     rw (a, b) (ap (λ (w : List ℕ). sets w (3 * i) (l ∷ p ∷ c ∷ [])) (h .is) ∙ flat-set es i (3 * i) l p c z (omega (arith, slots-length ws 0 u)) refl
     ∙ ap (λ (n : ℕ). flat (set es i (extent l p c)) ++ replicate (length ws - 3 * n) 0) (sym (length-set es i (extent l p c))))
+
+-- ---- slots moved
+
+module _ (ws : List ℕ) (u : ℕ) (h : Holds ws u) where
+  abbrev es : List Extent
+  es = slots ws 0 u
+
+  abbrev m : ℕ
+  m = length ws
+
+  size : length es ≡ u
+  size = slots-length ws 0 u
+
+  front : (i : ℕ) → i ≤ u → take (3 * i) ws ≡ flat (take i es)
+  unfolding padded
+  front i s = ap (take (3 * i)) (h .is) ∙ flat-take i es (replicate (m - 3 * length es) 0) (omega (arith, size))
+
+  back : (i : ℕ) → i ≤ u → drop (3 * i) ws ≡ flat (drop i es) ++ replicate (m - 3 * u) 0
+  unfolding padded
+  back i s =
+      ap (drop (3 * i)) (h .is) ∙ flat-drop i es (replicate (m - 3 * length es) 0) (omega (arith, size))
+      ∙ ap (λ (k : ℕ). flat (drop i es) ++ replicate (m - 3 * k) 0) size
+
+  back-length : (i : ℕ) → length (flat (drop i es)) ≡ 3 * (u - i)
+  back-length i = flat-length (drop i es) ∙ omega (arith, length-drop i es, size)
+
+  -- as `shift_up` gives the part from slot i on back
+  pub holds-insert : (i l p c : ℕ) (ys : List ℕ) → i ≤ u → 3 * u + 3 ≤ m
+      → ys ≡ l ∷ p ∷ c ∷ take (length (midOf (3 * i) (3 * u + 3 - 3 * i) ws) - 3) (midOf (3 * i) (3 * u + 3 - 3 * i) ws)
+      → putMid (3 * i) (3 * u + 3 - 3 * i) ws ys ≡ padded m (take i es ++ extent l p c ∷ drop i es)
+  unfolding padded flat
+  holds-insert i l p c ys s f e =
+      let moved = flat (drop i es) in
+      let k : 3 * u + 3 - 3 * i ≡ length moved + 3 = omega (arith, back-length i) in
+      let r : m - 3 * u ≡ suc (suc (suc (m - 3 * u - 3))) = omega arith in
+      let rest : List ℕ = replicate (m - 3 * u - 3) 0 in
+      let tail : drop (3 * i) ws ≡ moved ++ 0 ∷ 0 ∷ 0 ∷ rest = back i s ∙ ap (λ (j : ℕ). moved ++ replicate j 0) r in
+      let mid : midOf (3 * i) (3 * u + 3 - 3 * i) ws ≡ moved ++ 0 ∷ 0 ∷ 0 ∷ [] =
+      ap₂ (λ (j : ℕ) (t : List ℕ). take j t) k tail ∙ take-append-add moved (0 ∷ 0 ∷ 0 ∷ rest) 3 in
+      let n : length (midOf (3 * i) (3 * u + 3 - 3 * i) ws) - 3 ≡ length moved = omega (arith, ap length mid, length-append moved (0 ∷ 0 ∷ 0 ∷ [])) in
+      let new : ys ≡ l ∷ p ∷ c ∷ moved =
+      e ∙ ap₂ (λ (j : ℕ) (t : List ℕ). l ∷ p ∷ c ∷ take j t) n mid ∙ ap (λ (t : List ℕ). l ∷ p ∷ c ∷ t) (take-at moved (0 ∷ 0 ∷ 0 ∷ []) (length moved) refl) in
+      let over : drop (3 * u + 3 - 3 * i) (drop (3 * i) ws) ≡ rest =
+      ap₂ (λ (j : ℕ) (t : List ℕ). drop j t) k tail ∙ drop-append-add moved (0 ∷ 0 ∷ 0 ∷ rest) 3 in
+      let count : m - 3 * u - 3 ≡ m - 3 * length (take i es ++ extent l p c ∷ drop i es) =
+      omega (arith, length-append (take i es) (extent l p c ∷ drop i es), length-take-le i es (omega (arith, size)), length-drop i es, size) in
+      ap₂ (λ (a b : List ℕ). a ++ b) (front i s) (ap₂ (λ (a b : List ℕ). a ++ b) new over)
+      ∙ sym (append-assoc (flat (take i es)) (l ∷ p ∷ c ∷ moved) rest)
+      ∙ ap₂ (λ (a : List ℕ) (j : ℕ). a ++ replicate j 0) (sym (flat-append (take i es) (extent l p c ∷ drop i es))) count
+
+  -- as `shift_down` gives the part from slot a on back
+  pub holds-close : (a z : ℕ) (ys : List ℕ) → a ≤ z → z ≤ u
+      → ys ≡ drop (3 * (z - a)) (midOf (3 * a) (3 * u - 3 * a) ws) ++ replicate (3 * (z - a)) 0
+      → putMid (3 * a) (3 * u - 3 * a) ws ys ≡ padded m (take a es ++ drop z es)
+  unfolding padded
+  holds-close a z ys s t e =
+      let moved = flat (drop a es) in
+      let gap : List ℕ = replicate (3 * (z - a)) 0 in
+      let rest : List ℕ = replicate (m - 3 * u) 0 in
+      let k : length moved ≡ 3 * u - 3 * a = omega (arith, back-length a) in
+      let tail : drop (3 * a) ws ≡ moved ++ rest = back a (omega arith) in
+      let mid : midOf (3 * a) (3 * u - 3 * a) ws ≡ moved = ap (take (3 * u - 3 * a)) tail ∙ take-at moved rest (3 * u - 3 * a) k in
+      let kept : drop (3 * (z - a)) moved ≡ flat (drop z es) =
+      let at : a + (z - a) ≡ z = omega arith in
+      ap (drop (3 * (z - a))) (sym (append-nil moved)) ∙ flat-drop (z - a) (drop a es) [] (omega (arith, length-drop a es, size)) ∙ append-nil (flat (drop (z - a) (drop a es)))
+      ∙ ap flat (drop-drop (z - a) a es ∙ ap (λ (j : ℕ). drop j es) at) in
+      let new : ys ≡ flat (drop z es) ++ gap = e ∙ ap (λ (w : List ℕ). w ++ gap) (ap (drop (3 * (z - a))) mid ∙ kept) in
+      let over : drop (3 * u - 3 * a) (drop (3 * a) ws) ≡ rest = ap (drop (3 * u - 3 * a)) tail ∙ drop-at moved rest (3 * u - 3 * a) k in
+      let count : 3 * (z - a) + (m - 3 * u) ≡ m - 3 * length (take a es ++ drop z es) =
+      omega (arith, h .fits, length-append (take a es) (drop z es), length-take-le a es (omega (arith, size)), length-drop z es, size) in
+      ap₂ (λ (x y : List ℕ). x ++ y) (front a (omega arith)) (ap₂ (λ (x y : List ℕ). x ++ y) new over)
+      ∙ ap (λ (w : List ℕ). flat (take a es) ++ w) (append-assoc (flat (drop z es)) gap rest ∙ ap (λ (w : List ℕ). flat (drop z es) ++ w) (replicate-append-replicate (3 * (z - a)) (m - 3 * u) 0))
+      ∙ sym (append-assoc (flat (take a es)) (flat (drop z es)) (replicate (3 * (z - a) + (m - 3 * u)) 0))
+      ∙ ap₂ (λ (w : List ℕ) (j : ℕ). w ++ replicate j 0) (sym (flat-append (take a es) (drop z es))) count

@@ -1,7 +1,8 @@
 -- Extents that keep rules 1 and 2, as a contract asks for them: for some N and L, which the code does not need.
-use Prim.Native.Nat.{ℕ, _+_, _≤_, _<_}
+use Prim.Native.Nat.{ℕ, suc, _+_, _≤_, _<_}
 use mathlib.Core.Path.{_≡_}
 use mathlib.Core.List.{List}
+use native.Mathlib.Omega.{arith}
 use Rattle.rules.specs.Extents.{none, end, slot, slots}
 use Rattle.rules.specs.declared.Extent.{Extent}
 use Rattle.laws.specs.Rows.{Rows}
@@ -25,4 +26,4 @@ module _ (ws : List ℕ) (u : ℕ) (s : Sound (slots ws 0 u)) where
   sound-piece i h = record { some = ranked .some i h; small = ranked .small i h }
 
   pub sound-rises : (i j : ℕ) → j ≡ i + 1 → j < u → end (slot ws i) ≤ slot ws j .logical
-  sound-rises i j e h = let at : j ≡ Prim.Native.Nat.suc i = omega native.Mathlib.Omega.arith in ranked .rising i j at h
+  sound-rises i j e h = let at : j ≡ suc i = omega arith in ranked .rising i j at h

@@ -10,7 +10,8 @@ use Rattle.rules.specs.Read.{hole}
 use Rattle.rules.specs.Calls.{over}
 use Rattle.rules.specs.declared.Extent.{Extent}
 use Rattle.laws.specs.Slots.{flat-length, flat-append}
-use Rattle.reading.specs.Walk.{between, Sound, starts, reaches, clipped, walk-start, walk-end, walk-over, walk-more, tells, tells-none, tells-some, hole-append, no-hole, some-hole}
+use Rattle.map.specs.Sound.{Sound}
+use Rattle.reading.specs.Walk.{between, starts, reaches, clipped, walk-start, walk-end, walk-over, walk-more, tells, tells-none, tells-some, hole-append, no-hole, some-hole}
 
 -- in the buffer's slots from k on
 unfoldable pub laid : ℕ → List Extent → List ℕ → List ℕ

@@ -14,25 +14,13 @@ use Rattle.rules.specs.Extents.{none, extent, end, slot, slots}
 use Rattle.rules.specs.Read.{hole, holes}
 use Rattle.rules.specs.declared.Extent.{Extent}
 use Rattle.laws.specs.Bools.{cases}
-use Rattle.laws.specs.Rows.{Rows}
 use Rattle.laws.specs.Unique.{extent-path}
 use Rattle.laws.specs.Cut.{below, from, below-none, below-part, below-all, from-none, from-part, from-all}
-use Rattle.laws.specs.Ranked.{Ranked, rows-ranked}
+use Rattle.map.specs.Sound.{Sound, sound-piece, sound-rises}
 
 -- the extents from logical page l up to e, each clipped, and each maximal hole
 abbrev pub between : ℕ → ℕ → List Extent → List Extent
 between l e es = holes l e (below e (from l es))
-
--- sound extents, for some N and L
-pub record Sound (es : List Extent) : Type 0 where
-  pub pages : ℕ
-  pub logical : ℕ
-  pub rows : Rows pages 0 none logical es
-
--- it has pages, and their numbers are words
-pub record Piece (x : Extent) : Type 0 where
-  pub some : 0 < x .count
-  pub small : x .physical + x .count ≤ none
 
 -- ---- one extent, where the answer has come to pos
 
@@ -176,26 +164,23 @@ below-slots e ws j zero h = refl
 below-slots e ws j (suc m) h = below-none e (slot ws j) (slots ws (j + 1) m) (h (omega arith))
 
 module _ (ws : List ℕ) (u pos e i : ℕ) (sound : Sound (slots ws 0 u)) (h : i < u) (p : pos ≤ e) where
-  ranked : Ranked (sound .pages) (sound .logical) ws u
-  ranked = rows-ranked (sound .pages) (sound .logical) ws u (sound .rows)
-
-  pub walk-piece : Piece (slot ws i)
-  walk-piece = record { some = ranked .some i h; small = ranked .small i h }
+  some : (j : ℕ) → j < u → 0 < slot ws j .count
+  some j q = sound-piece ws u sound j q .some
 
   -- slot i is the first that is left
   pub walk-end : e ≤ starts pos (slot ws i) → between pos e (slots ws i (u - i)) ≡ hole pos e []
   walk-end s =
       ap (between pos e) (slots-first ws i u h)
-      ∙ between-end pos e (slot ws i) (slots ws (i + 1) (u - (i + 1))) (ranked .some i h) p s
+      ∙ between-end pos e (slot ws i) (slots ws (i + 1) (u - (i + 1))) (some i h) p s
 
   pub walk-more : starts pos (slot ws i) < e
       → between pos e (slots ws i (u - i)) ≡ tells pos e (slot ws i) ++ between (reaches pos e (slot ws i)) e (slots ws (i + 1) (u - (i + 1)))
   walk-more s =
       ap (between pos e) (slots-first ws i u h)
-      ∙ between-more pos e (slot ws i) (slots ws (i + 1) (u - (i + 1))) (ranked .some i h) p s
+      ∙ between-more pos e (slot ws i) (slots ws (i + 1) (u - (i + 1))) (some i h) p s
       (λ t. from-slots (reaches pos e (slot ws i)) ws (i + 1) (u - (i + 1))
-      (λ m. (omega (arith, ranked .rising i (i + 1) (omega arith) (omega arith), ranked .some i h), ranked .some (i + 1) (omega arith))))
-      (λ t. below-slots e ws (i + 1) (u - (i + 1)) (λ m. omega (arith, ranked .rising i (i + 1) (omega arith) (omega arith))))
+      (λ m. (omega (arith, sound-rises ws u sound i (i + 1) refl (omega arith), some i h), some (i + 1) (omega arith))))
+      (λ t. below-slots e ws (i + 1) (u - (i + 1)) (λ m. omega (arith, sound-rises ws u sound i (i + 1) refl (omega arith))))
 
 -- no slot is left
 pub walk-over : (ws : List ℕ) (u pos e i : ℕ) → i ≡ u → between pos e (slots ws i (u - i)) ≡ hole pos e []

@@ -6,7 +6,8 @@ ghost use lib.ListN.{length};
 ghost use Rattle.rules.specs.Extents.{extent, end, flat, slot, slots};
 ghost use Rattle.rules.specs.Read.{hole};
 ghost use Rattle.rules.specs.Calls.{over};
-ghost use Rattle.reading.specs.Walk.{between, Sound, Piece, starts, reaches, tells};
+ghost use Rattle.map.specs.Sound.{Sound, Piece};
+ghost use Rattle.reading.specs.Walk.{between, starts, reaches, tells};
 ghost use Rattle.reading.specs.Told.{laid, Lays};
 
 // 01, Numbers: the physical start of a hole in a read.

@@ -2,7 +2,8 @@
 use Prim.Native.Nat.{_+_, _-_, _*_, _≤_}
 use mathlib.Core.Path.{_≡_, refl}
 use lib.ListN.{length}
-use Rattle.reading.specs.Walk.{walk-piece, walk-end, walk-over}
+use Rattle.map.specs.Sound.{sound-piece}
+use Rattle.reading.specs.Walk.{walk-end, walk-over}
 use Rattle.reading.specs.Told.{Telling, telling-start, telling-room, telling-end, telling-fits, telling-more}
 use borrow.Author.Needs.{needs}
 use native.Mathlib.Omega.{arith}
@@ -43,7 +44,7 @@ put-slot-requires c κs =
     let a = c .before .before .before .before .before .before .before .args in
     let o = c .before .before .before .before .loop in
     let p = c .before .before .before .before .before .before .before .pre in (
-      (omega arith, omega arith, omega arith, walk-piece (a .ext .now) (a .used) (o .pos) (a .e) (o .i) (p .0 .2) (omega arith) (omega arith)),
+      (omega arith, omega arith, omega arith, sound-piece (a .ext .now) (a .used) (p .0 .2) (o .i) (omega arith)),
       telling-fits (a .l) (a .e) (a .ext .now) (a .used) (a .out .now) (o .i) (o .pos) (o .k) (o .out) (p .1) (o .inv .3) (p .0 .2) (omega arith) (omega arith) (omega arith),
     )
 

@@ -1,0 +1,56 @@
+-- Three words stored.
+use lib.ListN.{length-set}
+use Rattle.map.specs.Padded.{holds-set}
+use native.Mathlib.Omega.{arith}
+use borrow.Author.Needs.{needs}
+use Rattle.map.proofs.put.Statement.{statement}
+use Rattle.map.proofs.put.Tie as tie
+
+mul-at : tie.Need-mul-at
+mul-at c = search needs
+
+mul-ext : tie.Need-mul-ext
+mul-ext c = search needs
+
+slice-write-ext : tie.Need-slice-write-ext
+slice-write-ext c = search needs
+
+add-ext : tie.Need-add-ext
+add-ext c = search needs
+
+mul-ext-2 : tie.Need-mul-ext-2
+mul-ext-2 c = search needs
+
+slice-write-ext-2 : tie.Need-slice-write-ext-2
+slice-write-ext-2 c = simp length-set (omega arith)
+
+add-ext-2 : tie.Need-add-ext-2
+add-ext-2 c = search needs
+
+mul-ext-3 : tie.Need-mul-ext-3
+mul-ext-3 c = search needs
+
+slice-write-ext-3 : tie.Need-slice-write-ext-3
+slice-write-ext-3 c = simp length-set (omega arith)
+
+same-length : tie.Need-same-length
+same-length c = search needs
+
+returns : tie.Need-returns
+returns c = holds-set (c .args .ext .now) _ _ _ _ _ (c .pre .0) (c .pre .1)
+
+pub put-spec : {M : Type 1} → statement M
+put-spec =
+    tie.close
+    (tie.spec
+    mul-at
+    mul-ext
+    slice-write-ext
+    add-ext
+    mul-ext-2
+    slice-write-ext-2
+    add-ext-2
+    mul-ext-3
+    slice-write-ext-3
+    same-length
+    returns)
