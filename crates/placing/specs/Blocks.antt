@@ -37,6 +37,15 @@ raised-none m b blk e =
     ∙ ap (λ (ws : List ℕ). set ws (stride * b + 1) (validWord blk b)) (set-getD blk (stride * b) 0)
     ∙ set-getD blk (stride * b + 1) 0
 
+-- in the code's own terms
+pub raised-by : (m b : ℕ) (blk ws ws′ : List ℕ) (f v : ℕ) → f ≡ fillWord blk b → v ≡ validWord blk b
+    → ws ≡ set blk (stride * b) (f + m) → ws′ ≡ set ws (stride * b + 1) (v + m) → ws′ ≡ raised m b blk
+unfolding raised
+raised-by m b blk ws ws′ f v e g first second =
+    second
+    ∙ ap (λ (xs : List ℕ). set xs (stride * b + 1) (v + m)) first
+    ∙ ap₂ (λ (x y : ℕ). set (set blk (stride * b) (x + m)) (stride * b + 1) (y + m)) e g
+
 pub raised-length : (m b : ℕ) (blk : List ℕ) → length (raised m b blk) ≡ length blk
 unfolding raised
 raised-length m b blk = simp length-set

@@ -121,4 +121,3 @@ placed-alike d e l want blk out blk′ spare′ out′ r a p =
       fills = ap (λ (k : ℕ). fillsOf k blk′) (sym size) ∙ p .fills ∙ alike-puts l want d e a .fills;
       valid = λ b h. p .valid b (omega arith) ∙ ap (λ (bs : List ℕ). validWord blk b + count want (λ i. eqb (getD bs i 0) b)) (alike-targets l want d e a);
     }
-

@@ -22,7 +22,6 @@ use Rattle.laws.specs.Spread.{listed, spread, filled, labelled, listed-none, li
 use Rattle.placing.specs.Bare.{fillsOf, bare}
 use Rattle.placing.specs.Blocks.{raised, raises, raised-length, raised-rise, raised-after, raises-fills, raises-rise}
 use Rattle.placing.specs.Rest.{rest, takes, page-small, fills-all, rest-start, rest-next, rest-end}
-
 use Rattle.placing.specs.Place.{pieceIn, Fits, PlacedIn, Ready, Placed}
 
 -- ---- a piece in front of others

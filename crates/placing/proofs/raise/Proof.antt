@@ -1,4 +1,4 @@
-use Rattle.placing.specs.Blocks.{raised}
+use Rattle.placing.specs.Blocks.{raised-by}
 use borrow.Author.Needs.{needs}
 use Rattle.placing.proofs.raise.Statement.{statement}
 use Rattle.placing.proofs.raise.Tie as tie
@@ -25,8 +25,11 @@ same-length : tie.Need-same-length
 same-length c = search needs
 
 returns : tie.Need-returns
-unfolding raised
-returns c = cc
+returns c =
+    let v = c .before .before .before .before .before .before .before .before .before .before .before .before .before .args in
+    raised-by (v .m) (v .b) (v .blk .now) (c .before .before .before .before .before .before .put-fill .last .0) (c .before .before .put-valid .last .0)
+    (c .before .before .before .before .before .before .before .before .before .before .fill-of .result) (c .before .before .before .before .before .before .before .before .valid-of .result) (c .before .before .before .before .before .before .before .before .before .before .fill-of .ensures) (c .before .before .before .before .before .before .before .before .valid-of .ensures)
+    (c .before .before .before .before .before .before .put-fill .ensures) (c .before .before .put-valid .ensures)
 
 pub raise-spec : {M : Type 1} → statement M
 raise-spec =
