@@ -1,7 +1,7 @@
 -- Runs of stores read by index, and a block's cells copied to another block and then emptied.
 use Prim.Native.Nat.{ℕ, zero, suc, _+_, _-_, _*_, _≤_, _<_}
 use mathlib.Core.Path.{_≡_, refl, sym, ap, ap₂, _∙_}
-use mathlib.Core.List.{List, [], _∷_, map}
+use mathlib.Core.List.{List, [], _∷_, _++_, map}
 use mathlib.Core.Bool.{Bool, false}
 use mathlib.Core.Logic.{by-cases}
 use native.Mathlib.Omega.{arith}
@@ -35,6 +35,23 @@ unfolding tabulate
 getD-tabulate zero f i z h = absurd (omega arith)
 getD-tabulate (suc n) f zero z h = refl
 getD-tabulate (suc n) f (suc i) z h = getD-tabulate n (λ j. f (suc j)) i z (omega arith)
+
+pub tabulate-same : {A : Type 0} (n : ℕ) (f g : ℕ → A) → ((i : ℕ) → i < n → f i ≡ g i) → tabulate n f ≡ tabulate n g
+unfolding tabulate
+tabulate-same zero f g h = refl
+tabulate-same {A} (suc n) f g h =
+    ap₂ (λ (a : A) (r : List A). a ∷ r) (h 0 (omega arith)) (tabulate-same n (λ i. f (suc i)) (λ i. g (suc i)) (λ i s. h (suc i) (omega arith)))
+
+pub tabulate-append : {A : Type 0} (n m k : ℕ) (f : ℕ → A) → k ≡ n + m → tabulate k f ≡ tabulate n f ++ tabulate m (λ i. f (n + i))
+unfolding tabulate
+tabulate-append zero m k f e =
+    let at : k ≡ m = omega arith in
+    ap (λ (x : ℕ). tabulate x f) at ∙ tabulate-same m f (λ i. f (0 + i)) (λ i s. let g : i ≡ 0 + i = omega arith in ap f g)
+tabulate-append (suc n) m zero f e = absurd (omega arith)
+tabulate-append {A} (suc n) m (suc k) f e =
+    ap (λ (r : List A). f 0 ∷ r) (tabulate-append n m k (λ i. f (suc i)) (omega arith)
+    ∙ ap (λ (r : List A). tabulate n (λ i. f (suc i)) ++ r) (tabulate-same m (λ i. f (suc (n + i))) (λ i. f (suc n + i))
+    (λ i s. let g : suc (n + i) ≡ suc n + i = omega arith in ap f g)))
 
 module _ {A : Type 0} (z : A) where
   pub sets-low : (vs l : List A) (i j : ℕ) → j < i → getD (sets l i vs) j z ≡ getD l j z

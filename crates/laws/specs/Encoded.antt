@@ -1,0 +1,80 @@
+-- The extents of a device's map after each call, from those before it; and how many there are at most.
+use Prim.Native.Nat.{ℕ, suc, _+_, _/_, _%_, _≤_, _<_}
+use mathlib.Core.Path.{_≡_, sym, ap, _∙_}
+use mathlib.Core.List.{List, [], _∷_, map}
+use mathlib.Core.Logic.{by-cases}
+use native.Mathlib.Omega.{arith}
+use native.Mathlib.Decide.{ℕ-discrete}
+use native.Mathlib.Nat.{suc-mul}
+use lib.Arith.{digits-mod}
+use lib.ListN.{length, length-map}
+use Rattle.rules.specs.Extents.{none, extent, runs}
+use Rattle.rules.specs.Device.{Device, blocks, lines, at, named, stale, extents}
+use Rattle.rules.specs.Placement.{putsAt, placesAt}
+use Rattle.rules.specs.Number.{withTable, trimmed}
+use Rattle.rules.specs.Reclaim.{victim, goes, reclaimedAt, reclaimed}
+use Rattle.laws.specs.Cells.{block-le}
+use Rattle.laws.specs.Runs.{join-length, runs-hole, runs-page, runs-rows, runs-lookup, Words}
+use Rattle.laws.specs.Cut.{cut}
+use Rattle.laws.specs.Trim.{trim-cut}
+use Rattle.laws.specs.Write.{place, write-place}
+use Rattle.laws.specs.Norm.{norm, norm-length, move, move-runs, movesTo, movesTo-steadies}
+use Rattle.laws.specs.Device.{Sound, page-lt, offset-lt, none-block}
+use Rattle.laws.specs.Placed.{Opens, puts-table, puts-pages, length-places, places-small}
+use Rattle.laws.specs.Reclaimed.{goes-other, within, victim-chosen}
+
+pub table-small : (d : Device) → Sound d → Words (d .table)
+table-small d s l =
+    by-cases (ℕ-discrete (at d l) none)
+    (λ e. omega arith)
+    (λ m. let h = s .home l m in omega (arith, h .is, page-lt d s (h .block) (h .offset) (h .inside) (offset-lt d s l m)))
+
+-- a write: the pieces of the answer, put in between what lies below the range and what lies above it
+pub write-extents : (l : ℕ) (bs : List ℕ) (d : Device) → Sound d → Opens l bs d → l + length bs ≤ lines d
+    → place (d .pages) l (l + length bs) (runs (d .pages) l (placesAt l bs d)) (extents d) ≡ extents (putsAt l bs d)
+unfolding extents
+write-extents l bs d s v h =
+    let e = length-places l bs d in
+    let r = write-place (d .pages) (s .some) l (placesAt l bs d) (d .table) (omega arith) (places-small l bs d s v h) (table-small d s) in
+    rw (puts-pages l bs d, puts-table l bs d) (rw e at r)
+
+pub trim-extents : (k l n : ℕ) (d : Device) → Sound d → 0 < n → l + n ≤ lines d → cut l (l + n) (extents d) ≡ extents (trimmed k l n d)
+unfolding extents trimmed withTable
+trim-extents k l n d s z h = trim-cut (d .pages) (s .some) l n (d .table) z h (table-small d s)
+
+-- a reclaim: each extent moved whole, then joined
+pub reclaim-extents : (d : Device) → Sound d → (v : ℕ) → v < blocks d → (v ≡ d .reserve → ⊥)
+    → norm (d .pages) (map (move (goes v (d .reserve) d)) (extents d)) ≡ extents (reclaimedAt v d)
+unfolding extents reclaimedAt goes movesTo
+reclaim-extents d s v a e =
+    move-runs (d .pages) (s .some) (goes v (d .reserve) d) (goes-other v (d .reserve) d none (none-block d s v a)) (d .table) (table-small d s)
+    (movesTo-steadies (d .pages) (s .some) (named d v) v (d .reserve) (lines d) (runs (d .pages) 0 (d .table)) 0 none
+    (omega (arith, suc-mul (d .reserve) (d .pages), block-le (d .pages) (d .reserve) (blocks d) (s .kept), s .words))
+    (runs-rows (d .pages) (s .some) (d .table) 0 (lines d) (table-small d s) (omega arith))
+    (λ l m q. let g = runs-lookup (d .pages) (s .some) (d .table) 0 l l (table-small d s) (omega arith) in
+    let w = within d s v a e l (sym (ap (λ (x : ℕ). x / d .pages) g) ∙ q) in
+    ap (named d v) (ap (λ (x : ℕ). x % d .pages) (g ∙ w .is) ∙ digits-mod v (omega (arith, w .below, s .full v a))) ∙ w .live))
+
+-- ---- how many
+
+pub runs-length : (n l : ℕ) (t : List ℕ) → length (runs n l t) ≤ length t
+unfolding runs
+runs-length n l [] = omega arith
+runs-length n l (p ∷ ps) =
+    by-cases (ℕ-discrete p none)
+    (λ e. rw (runs-hole n l p ps e) (omega (arith, runs-length n (suc l) ps)))
+    (λ e. rw (runs-page n l p ps e) (omega (arith, join-length n (extent l p 1) (runs n (suc l) ps), runs-length n (suc l) ps)))
+
+-- at most one a line
+pub extents-lines : (d : Device) → length (extents d) ≤ lines d
+unfolding extents
+extents-lines d = runs-length (d .pages) 0 (d .table)
+
+-- a reclaim needs no slot more
+pub reclaim-shrinks : (d : Device) → Sound d → 0 < stale d → length (extents (reclaimed d)) ≤ length (extents d)
+unfolding reclaimed
+reclaim-shrinks d s h =
+    let c = victim-chosen d s h in
+    let v = victim d in
+    let g : ℕ → ℕ = goes v (d .reserve) d in
+    omega (arith, ap length (reclaim-extents d s v (c .inside) (c .other)), norm-length (d .pages) (map (move g) (extents d)), length-map (extents d) (move g))

@@ -1,0 +1,152 @@
+-- How many extents a device's map has after a write and after a trim, in terms of those before, with the bounds: at most n + 1 more, and
+-- at most one a line.
+use Prim.Native.Nat.{ℕ, zero, suc, _+_, _*_, _%_, _≤_, _<_}
+use mathlib.Core.Path.{_≡_, refl, sym, ap, _∙_}
+use mathlib.Core.List.{List, [], _∷_}
+use mathlib.Core.Logic.{by-cases}
+use native.Mathlib.Omega.{arith}
+use native.Mathlib.Decide.{decLt, ℕ-discrete}
+use lib.ListN.{length, getD}
+use native.Mathlib.Nat.{suc-mul, mul-mod-left}
+use Rattle.rules.specs.Extents.{none, extent, runs}
+use Rattle.rules.specs.Device.{Device, blocks, lines, at, fill, free, extents}
+use Rattle.rules.specs.Placement.{putAt, putsAt, placesAt, target, targets, puts, places, pieces}
+use Rattle.rules.specs.Number.{withTable, trimmed}
+use Rattle.laws.specs.Counts.{startsBefore, endsAfter, leftJoin, trim-count, write-count, cut-bound, place-bound}
+use Rattle.laws.specs.Device.{Sound, same-block, same-offset, page-lt, offset-lt}
+use Rattle.laws.specs.Placed.{Open, Opens, put-pages, put-fill, put-fill-other, put-one, puts-table, puts-pages, length-places, places-lt, places-small, length-targets, targets-open, puts-all}
+use Rattle.laws.specs.Lines.{trimmed-lines}
+use Rattle.laws.specs.Encoded.{table-small, write-extents, trim-extents, runs-length, extents-lines}
+
+-- ---- new pages lie from their block's fill on
+
+pub record New (d : Device) (p : ℕ) : Type 0 where
+  pub block : ℕ
+  pub offset : ℕ
+  pub is : p ≡ block * d .pages + offset
+  pub inside : block < blocks d
+  pub above : fill d block ≤ offset
+  pub below : offset < d .pages
+
+fill-rises : (d : Device) (s : Sound d) (b : ℕ) (v : Open d b) (l : ℕ) (a : l < lines d) (c : ℕ) → fill d c ≤ fill (putAt b l d) c
+fill-rises d s b v l a c =
+    by-cases (ℕ-discrete c b)
+    (λ e. rw e (omega (arith, put-fill d s b v l a)))
+    (λ e. omega (arith, put-fill-other d s b v l a c e))
+
+-- what is new where fills have risen was new before
+new-before : (d e : Device) (p : ℕ) → e .pages ≡ d .pages → blocks e ≡ blocks d → ((c : ℕ) → fill d c ≤ fill e c) → New e p → New d p
+new-before d e p n b f r = record {
+  block = r .block;
+  offset = r .offset;
+  is = r .is ∙ ap (λ (x : ℕ). r .block * x + r .offset) n;
+  inside = omega (arith, r .inside);
+  above = omega (arith, r .above, f (r .block));
+  below = omega (arith, r .below);
+}
+
+pub places-new : (l : ℕ) (bs : List ℕ) (d : Device) → Sound d → Opens l bs d → l + length bs ≤ lines d → (i : ℕ) → i < length bs → New d (getD (placesAt l bs d) i none)
+unfolding placesAt
+places-new l [] d s v h i t = absurd (omega arith)
+places-new l (b ∷ bs) d s v h zero t = record { block = b; offset = fill d b; is = refl; inside = v .0 .inside; above = omega arith; below = v .0 .below }
+places-new l (b ∷ bs) d s v h (suc i) t =
+    let a : l < lines d = omega arith in
+    let p = put-one b l d s (v .0) a in
+    new-before d (putAt b l d) (getD (placesAt (suc l) bs (putAt b l d)) i none) (put-pages d s b (v .0) l a) (p .blocks) (fill-rises d s b (v .0) l a)
+    (places-new (suc l) bs (putAt b l d) (p .sound) (v .1) (omega (arith, p .lines)) i (omega arith))
+
+module _ (d : Device) (s : Sound d) (p : ℕ) (w : New d p) (l : ℕ) where
+  -- a page from the fill on has no line
+  from-fill : (o : ℕ) → fill d (w .block) ≤ o → o < d .pages → at d l ≡ w .block * d .pages + o → ⊥
+  from-fill o f k e =
+      let m : at d l ≡ none → ⊥ = λ g. omega (arith, page-lt d s (w .block) o (w .inside) k) in
+      let h = s .home l m in
+      let z = offset-lt d s l m in
+      omega (
+        arith,
+        h .below,
+        ap (fill d) (same-block (d .pages) (h .block) (w .block) (h .offset) o z k (sym (h .is) ∙ e)),
+        same-offset (d .pages) (h .block) (w .block) (h .offset) o z k (sym (h .is) ∙ e),
+      )
+
+  pub new-page : at d l ≡ p → ⊥
+  new-page e = from-fill (w .offset) (w .above) (w .below) (e ∙ w .is)
+
+  -- nor has the page behind it, unless it begins a block
+  pub next-page : at d l ≡ p + 1 → (p + 1) % d .pages ≡ 0
+  next-page e =
+      by-cases (decLt (w .offset + 1) (d .pages))
+      (λ k. absurd (from-fill (w .offset + 1) (omega (arith, w .above)) k (omega (arith, w .is))))
+      (λ k. let g : p + 1 ≡ suc (w .block) * d .pages = omega (arith, w .is, w .below, suc-mul (w .block) (d .pages)) in
+      ap (λ (x : ℕ). x % d .pages) g ∙ mul-mod-left (suc (w .block)) (d .pages))
+
+-- ---- the write
+
+-- lines l, l + 1, .. into the blocks b, bs, each open when its page comes
+pub puts-grow : (l b : ℕ) (bs : List ℕ) (d : Device) → Sound d → Opens l (b ∷ bs) d → l + length (b ∷ bs) ≤ lines d
+    → length (extents (putsAt l (b ∷ bs) d)) + leftJoin (d .pages) (extent l (b * d .pages + fill d b) 1) (extents d)
+    ≡ startsBefore l (extents d) + endsAfter (l + length (b ∷ bs)) (extents d) + length (runs (d .pages) l (placesAt l (b ∷ bs) d))
+unfolding extents placesAt
+puts-grow l b bs d s v h =
+    let first = b * d .pages + fill d b in
+    let rest = placesAt (suc l) bs (putAt b l d) in
+    let size : length rest ≡ length bs = length-places (suc l) bs (putAt b l d) in
+    let new : (i : ℕ) → i < length (b ∷ bs) → New d (getD (first ∷ rest) i none) = places-new l (b ∷ bs) d s v h in
+    let some : (i : ℕ) → i < length (b ∷ bs) → getD (first ∷ rest) i none < none = places-lt l (b ∷ bs) d s v h in
+    let counted =
+    write-count (d .pages) (s .some) l first rest (d .table) (omega arith) (places-small l (b ∷ bs) d s v h) (table-small d s)
+    (λ e. omega (arith, some 0 (omega arith)))
+    (λ e. omega (arith, some (length rest) (omega arith)))
+    (λ e. absurd (new-page d s first (new 0 (omega arith)) l e))
+    (next-page d s (getD (first ∷ rest) (length rest) none) (new (length rest) (omega arith)) (l + length (first ∷ rest))) in
+    rw (puts-pages l (b ∷ bs) d, puts-table l (b ∷ bs) d) (rw size at counted)
+
+puts-bound : (l : ℕ) (bs : List ℕ) (d : Device) → Sound d → Opens l bs d → l + length bs ≤ lines d → length (extents (putsAt l bs d)) ≤ length (extents d) + length bs + 1
+puts-bound l bs d s v h =
+    let new = runs (d .pages) l (placesAt l bs d) in
+    omega (
+      arith,
+      ap length (write-extents l bs d s v h),
+      place-bound (d .pages) l (l + length bs) new (extents d) (omega arith),
+      runs-length (d .pages) l (placesAt l bs d),
+      length-places l bs d,
+    )
+
+module _ (l n : ℕ) (d : Device) (s : Sound d) (f : n ≤ free d) (h : l + n ≤ lines d) where
+  opens : Opens l (targets l n d) d
+  opens = targets-open l n d s f h
+
+  -- at most n + 1 more
+  pub write-bound : length (extents (puts l n d)) ≤ length (extents d) + n + 1
+  unfolding puts
+  write-bound = let t = length-targets l n d in omega (arith, puts-bound l (targets l n d) d s opens (omega arith))
+
+  -- at most one a line
+  pub write-lines : length (extents (puts l n d)) ≤ lines d
+  write-lines = omega (arith, extents-lines (puts l n d), puts-all l n d s f h .lines)
+
+-- a write of n pages from line l on: the first of them goes to the fill of the first target
+pub write-grows : (l n : ℕ) (d : Device) → Sound d → 0 < n → n ≤ free d → l + n ≤ lines d
+    → length (extents (puts l n d)) + leftJoin (d .pages) (extent l (target d * d .pages + fill d (target d)) 1) (extents d)
+    ≡ startsBefore l (extents d) + endsAfter (l + n) (extents d) + length (pieces l n d)
+unfolding puts pieces places targets
+write-grows l zero d s z f h = absurd (omega arith)
+write-grows l (suc n) d s z f h =
+    let bs = targets (suc l) n (putAt (target d) l d) in
+    let t : length bs ≡ n = length-targets (suc l) n (putAt (target d) l d) in
+    let v : Opens l (target d ∷ bs) d = targets-open l (suc n) d s f h in
+    rw t at (puts-grow l (target d) bs d s v (omega arith))
+
+-- ---- the trim
+
+module _ (k l n : ℕ) (d : Device) (s : Sound d) (z : 0 < n) (h : l + n ≤ lines d) where
+  pub trim-grows : length (extents (trimmed k l n d)) ≡ startsBefore l (extents d) + endsAfter (l + n) (extents d)
+  unfolding extents trimmed withTable
+  trim-grows = trim-count (d .pages) (s .some) l n (d .table) z h (table-small d s)
+
+  -- at most one more
+  pub trim-bound : length (extents (trimmed k l n d)) ≤ length (extents d) + 1
+  trim-bound = omega (arith, ap length (trim-extents k l n d s z h), cut-bound l (l + n) (extents d) (omega arith))
+
+  pub trim-lines : length (extents (trimmed k l n d)) ≤ lines d
+  trim-lines = omega (arith, extents-lines (trimmed k l n d), trimmed-lines k l n d)

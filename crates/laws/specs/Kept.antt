@@ -1,0 +1,232 @@
+-- What it says that a call is accepted, that an accepted call leaves a good device, and that a refused one leaves everything.
+use Prim.Native.Nat.{ℕ, _+_, _*_, _≤_, _<_}
+use mathlib.Core.Bool.{Bool, true, false, cond, _||_}
+use mathlib.Core.Path.{_≡_, refl, sym, _∙_}
+use mathlib.Core.List.{List}
+use native.Mathlib.Omega.{arith}
+use borrow.Author.Tests.{eqb-false, ltb-false, leb-false, ne-eqb, le-ltb, lt-leb}
+use lib.Dec.{eqb, ltb, leb}
+use lib.ListN.{length}
+use Rattle.rules.specs.Lent.{Lent}
+use Rattle.rules.specs.Device.{Device, blocks, lines, free, stale, extents}
+use Rattle.rules.specs.Placement.{targets, puts, pieces}
+use Rattle.rules.specs.Number.{applied, judged, withTable, numbered, written, trimmed}
+use Rattle.rules.specs.Reclaim.{victim, sources, reclaimed}
+use Rattle.rules.specs.Read.{found}
+use Rattle.rules.specs.Answers.{Outcome, refuse}
+use Rattle.rules.specs.Calls.{Call, outside, tooMany, writeRefusal, trimRefusal, readRefusal, reclaimRefusal, refusal, leaves, buffer, zeros, refused, verdict, acceptedOn, call}
+use Rattle.rules.specs.declared.Refusal.{Refusal}
+use Rattle.laws.specs.Bools.{cases, or-split}
+use Rattle.laws.specs.Device.{Sound}
+use Rattle.laws.specs.Placed.{puts-pages, puts-slots, puts-all}
+use Rattle.laws.specs.Lines.{written-sound, trimmed-lines, trimmed-sound}
+use Rattle.laws.specs.Reclaimed.{few-sources, victim-chosen, reclaim-all}
+use Rattle.laws.specs.Encoded.{reclaim-shrinks}
+use Rattle.laws.specs.Sane.{Sizes, Good}
+
+-- ---- the refusals, one after the other
+
+-- no number is 0: where nothing is refused, the test fails and the later tests refuse nothing
+pub refuse-none : (t : Bool) (r : Refusal) (later : ℕ) → refuse t r later ≡ 0 → (t ≡ false) × (later ≡ 0)
+unfolding refuse
+refuse-none false r later e = (refl, e)
+refuse-none true Refusal.Shape later e = absurd (omega arith)
+refuse-none true Refusal.Damaged later e = absurd (omega arith)
+refuse-none true Refusal.Range later e = absurd (omega arith)
+refuse-none true Refusal.Applied later e = absurd (omega arith)
+refuse-none true Refusal.NoPages later e = absurd (omega arith)
+refuse-none true Refusal.NoNodes later e = absurd (omega arith)
+refuse-none true Refusal.OutShort later e = absurd (omega arith)
+refuse-none true Refusal.NothingStale later e = absurd (omega arith)
+
+pub refuse-pass : (t : Bool) (r : Refusal) (later : ℕ) → t ≡ false → later ≡ 0 → refuse t r later ≡ 0
+unfolding refuse
+refuse-pass t r later e z = rw (e, z)
+
+-- 3
+pub record InRange (l n : ℕ) (d : Device) : Type 0 where
+  pub some : 0 < n
+  pub inside : l + n ≤ lines d
+
+pub in-range : (l n : ℕ) (d : Device) → outside l n d ≡ false → InRange l n d
+unfolding outside
+in-range l n d e =
+    let r = or-split (eqb n 0) (ltb (lines d) (l + n)) e in
+    let z = eqb-false n 0 (r .0) in
+    record { some = omega arith; inside = ltb-false (lines d) (l + n) (r .1) }
+
+pub range-in : (l n : ℕ) (d : Device) → InRange l n d → outside l n d ≡ false
+unfolding outside
+range-in l n d r = rw (ne-eqb n 0 (omega arith), le-ltb (lines d) (l + n) (r .inside))
+
+-- 6
+pub fits : (e : Device) → tooMany e ≡ false → length (extents e) ≤ e .slots
+unfolding tooMany
+fits e t = ltb-false (e .slots) (length (extents e)) t
+
+pub fits-in : (e : Device) → length (extents e) ≤ e .slots → tooMany e ≡ false
+unfolding tooMany
+fits-in e h = le-ltb (e .slots) (length (extents e)) h
+
+-- 4
+pub judged-none : (k : ℕ) (d : Device) (later : ℕ) → judged k d later ≡ 0 → (d .last < k) × (later ≡ 0)
+unfolding judged applied
+judged-none k d later e = let a = refuse-none (leb k (d .last)) Refusal.Applied later e in (leb-false k (d .last) (a .0), a .1)
+
+pub judged-pass : (k : ℕ) (d : Device) (later : ℕ) → d .last < k → later ≡ 0 → judged k d later ≡ 0
+unfolding judged applied
+judged-pass k d later h z = refuse-pass (leb k (d .last)) Refusal.Applied later (lt-leb k (d .last) h) z
+
+-- ---- what it says that a call is accepted
+
+pub record WriteTaken (k l n : ℕ) (out : List ℕ) (d : Device) : Type 0 where
+  pub range : InRange l n d
+  pub block : n ≤ d .pages
+  pub newer : d .last < k
+  pub pages : n ≤ free d
+  pub nodes : length (extents (puts l n d)) ≤ puts l n d .slots
+  pub room : 3 * length (pieces l n d) ≤ length out
+
+pub record TrimTaken (k l n : ℕ) (d : Device) : Type 0 where
+  pub range : InRange l n d
+  pub newer : d .last < k
+  pub nodes : length (extents (trimmed k l n d)) ≤ trimmed k l n d .slots
+
+pub record ReadTaken (l n : ℕ) (out : List ℕ) (d : Device) : Type 0 where
+  pub range : InRange l n d
+  pub room : 3 * length (found l n d) ≤ length out
+
+pub record ReclaimTaken (out : List ℕ) (d : Device) : Type 0 where
+  pub gains : 0 < stale d
+  pub nodes : length (extents (reclaimed d)) ≤ reclaimed d .slots
+  pub room : length (sources (victim d) d) ≤ length out
+
+abbrev pub Taken : Call → Device → Type 0
+Taken (Call.write k l n out) d = WriteTaken k l n out d
+Taken (Call.trim k l n) d = TrimTaken k l n d
+Taken (Call.read l n out) d = ReadTaken l n out d
+Taken (Call.reclaim out) d = ReclaimTaken out d
+Taken Call.report d = Unit {0}
+
+pub taken : (c : Call) (d : Device) → refusal c d ≡ 0 → Taken c d
+unfolding refusal writeRefusal trimRefusal readRefusal reclaimRefusal
+taken (Call.write k l n out) d e =
+    let a = refuse-none (outside l n d || ltb (d .pages) n) Refusal.Range _ e in
+    let b = judged-none k d _ (a .1) in
+    let c = refuse-none (ltb (free d) n) Refusal.NoPages _ (b .1) in
+    let x = refuse-none (tooMany (puts l n d)) Refusal.NoNodes _ (c .1) in
+    let y = refuse-none (ltb (length out) (3 * length (pieces l n d))) Refusal.OutShort 0 (x .1) in
+    let r = or-split (outside l n d) (ltb (d .pages) n) (a .0) in
+    record {
+      range = in-range l n d (r .0);
+      block = ltb-false (d .pages) n (r .1);
+      newer = b .0;
+      pages = ltb-false (free d) n (c .0);
+      nodes = fits (puts l n d) (x .0);
+      room = ltb-false (length out) (3 * length (pieces l n d)) (y .0);
+    }
+taken (Call.trim k l n) d e =
+    let a = refuse-none (outside l n d) Refusal.Range _ e in
+    let b = judged-none k d _ (a .1) in
+    let x = refuse-none (tooMany (trimmed k l n d)) Refusal.NoNodes 0 (b .1) in
+    record { range = in-range l n d (a .0); newer = b .0; nodes = fits (trimmed k l n d) (x .0) }
+taken (Call.read l n out) d e =
+    let a = refuse-none (outside l n d) Refusal.Range _ e in
+    let y = refuse-none (ltb (length out) (3 * length (found l n d))) Refusal.OutShort 0 (a .1) in
+    record { range = in-range l n d (a .0); room = ltb-false (length out) (3 * length (found l n d)) (y .0) }
+taken (Call.reclaim out) d e =
+    let a = refuse-none (eqb (stale d) 0) Refusal.NothingStale _ e in
+    let x = refuse-none (tooMany (reclaimed d)) Refusal.NoNodes _ (a .1) in
+    let y = refuse-none (ltb (length out) (length (sources (victim d) d))) Refusal.OutShort 0 (x .1) in
+    let z = eqb-false (stale d) 0 (a .0) in
+    record { gains = omega arith; nodes = fits (reclaimed d) (x .0); room = ltb-false (length out) (length (sources (victim d) d)) (y .0) }
+taken Call.report d e = tt
+
+pub passes : (c : Call) (d : Device) → Taken c d → refusal c d ≡ 0
+unfolding refusal writeRefusal trimRefusal readRefusal reclaimRefusal
+passes (Call.write k l n out) d t =
+    refuse-pass (outside l n d || ltb (d .pages) n) Refusal.Range _ (rw (range-in l n d (t .range), le-ltb (d .pages) n (t .block)))
+    (judged-pass k d _ (t .newer)
+    (refuse-pass (ltb (free d) n) Refusal.NoPages _ (le-ltb (free d) n (t .pages))
+    (refuse-pass (tooMany (puts l n d)) Refusal.NoNodes _ (fits-in (puts l n d) (t .nodes))
+    (refuse-pass (ltb (length out) (3 * length (pieces l n d))) Refusal.OutShort 0 (le-ltb (length out) (3 * length (pieces l n d)) (t .room)) refl))))
+passes (Call.trim k l n) d t =
+    refuse-pass (outside l n d) Refusal.Range _ (range-in l n d (t .range))
+    (judged-pass k d _ (t .newer)
+    (refuse-pass (tooMany (trimmed k l n d)) Refusal.NoNodes 0 (fits-in (trimmed k l n d) (t .nodes)) refl))
+passes (Call.read l n out) d t =
+    refuse-pass (outside l n d) Refusal.Range _ (range-in l n d (t .range))
+    (refuse-pass (ltb (length out) (3 * length (found l n d))) Refusal.OutShort 0 (le-ltb (length out) (3 * length (found l n d)) (t .room)) refl)
+passes (Call.reclaim out) d t =
+    refuse-pass (eqb (stale d) 0) Refusal.NothingStale _ (ne-eqb (stale d) 0 (omega (arith, t .gains)))
+    (refuse-pass (tooMany (reclaimed d)) Refusal.NoNodes _ (fits-in (reclaimed d) (t .nodes))
+    (refuse-pass (ltb (length out) (length (sources (victim d) d))) Refusal.OutShort 0 (le-ltb (length out) (length (sources (victim d) d)) (t .room)) refl))
+passes Call.report d t = refl
+
+-- ---- what an accepted call leaves is good
+
+sizes-same : (d e : Device) → e .pages ≡ d .pages → e .slots ≡ d .slots → blocks e ≡ blocks d → lines e ≡ lines d → Sizes (blocks d) (d .pages) (lines d) (d .slots) → Sizes (blocks e) (e .pages) (lines e) (e .slots)
+sizes-same d e p m b l z = rw (p, m, b, l) z
+
+-- the number is no part of the map
+numbered-good : (k : ℕ) (e : Device) → Sizes (blocks e) (e .pages) (lines e) (e .slots) → length (extents e) ≤ e .slots → Sound (numbered k e) → Good (numbered k e)
+unfolding numbered withTable extents
+numbered-good k e z f s = record { sizes = z; sound = s; few = f }
+
+trimmed-sizes : (k l n : ℕ) (d : Device) → Sizes (blocks d) (d .pages) (lines d) (d .slots) → Sizes (blocks (trimmed k l n d)) (trimmed k l n d .pages) (lines (trimmed k l n d)) (trimmed k l n d .slots)
+unfolding trimmed withTable
+trimmed-sizes k l n d z = sizes-same d (trimmed k l n d) refl refl refl (trimmed-lines k l n d) z
+
+pub keeps : (c : Call) (d : Device) → Good d → refusal c d ≡ 0 → Good (leaves c d)
+unfolding leaves written puts
+keeps (Call.write k l n out) d g e =
+    let t = taken (Call.write k l n out) d e in
+    let p = puts-all l n d (g .sound) (t .pages) (t .range .inside) in
+    numbered-good k (puts l n d)
+    (sizes-same d (puts l n d) (puts-pages l (targets l n d) d) (puts-slots l (targets l n d) d) (p .blocks) (p .lines) (g .sizes))
+    (t .nodes)
+    (written-sound k l n d (g .sound) (t .pages) (t .range .inside))
+keeps (Call.trim k l n) d g e =
+    let t = taken (Call.trim k l n) d e in
+    record { sizes = trimmed-sizes k l n d (g .sizes); sound = trimmed-sound k l n d (g .sound) (t .range .inside); few = t .nodes }
+keeps (Call.read l n out) d g e = g
+keeps (Call.reclaim out) d g e =
+    let t = taken (Call.reclaim out) d e in
+    let r = reclaim-all d (g .sound) (t .gains) in
+    record {
+      sizes = sizes-same d (reclaimed d) (r .pages) (r .slots) (r .blocks) (r .lines) (g .sizes);
+      sound = r .sound;
+      few = t .nodes;
+    }
+keeps Call.report d g e = g
+
+-- a reclaim is refused only where nothing is stale or the answer is too short for a block
+pub reclaim-passes : (out : List ℕ) (d : Device) → Good d → 0 < stale d → d .pages ≤ length out → ReclaimTaken out d
+reclaim-passes out d g h r =
+    let c = victim-chosen d (g .sound) h in
+    record {
+      gains = h;
+      nodes = omega (arith, reclaim-shrinks d (g .sound) h, reclaim-all d (g .sound) h .slots, g .few);
+      room = omega (arith, few-sources d (g .sound) (victim d) (c .inside) (c .other));
+    }
+
+-- ---- a refused call leaves every word and the head
+
+pub record Untouched (c : Call) (s : Lent) (o : Outcome Lent) : Type 0 where
+  pub after : o .after ≡ s
+  pub out : o .out ≡ buffer c
+  pub counts : o .counts ≡ zeros c
+
+untouched : (c : Call) (s : Lent) (b : Bool) → (cond b (acceptedOn c s) (refused (verdict c s) c s) .refusal ≡ 0 → ⊥) → Untouched c s (cond b (acceptedOn c s) (refused (verdict c s) c s))
+unfolding acceptedOn refused
+untouched c s true h = absurd (h refl)
+untouched c s false h = record { after = refl; out = refl; counts = refl }
+
+pub refused-untouched : (c : Call) (s : Lent) → (call c s .refusal ≡ 0 → ⊥) → Untouched c s (call c s)
+unfolding call
+refused-untouched c s h = untouched c s (eqb (verdict c s) 0) h
+
+-- ---- each rule allows one outcome: that of `call` for the five calls on a lent state, that of `fresh` for the sixth
+
+pub determined : (rule x y : Outcome Lent) → x ≡ rule → y ≡ rule → x ≡ y
+determined rule x y p q = p ∙ sym q
