@@ -1,2 +1,3 @@
 pub mod Stale
 pub mod Covered
+pub mod Ranks

@@ -1,11 +1,15 @@
 // What a reclaim does to lent words: the victim, where its pages go, and then the list of copies, the labels, the block records and the
 // map, each by itself. It stands behind the refusals: what a sound state promises is required here.
 ghost use mathlib.Core.Path.{_≡_};
-ghost use Prim.Native.Nat.{ℕ, _+_, _-_, _*_, _<_, _≤_, _^_};
+ghost use Prim.Native.Nat.{ℕ, _+_, _-_, _*_, _/_, _%_, _<_, _≤_, _^_};
 ghost use lib.ListN.{length, getD, set, take};
 ghost use Rattle.rules.specs.Counting.{most};
 ghost use Rattle.rules.specs.Blocks.{stride, fillWord, validWord};
+ghost use Rattle.rules.specs.Extents.{slot, slots};
+ghost use Rattle.words.specs.Store.{stored};
 ghost use Rattle.reclaiming.specs.Stale.{staleWord};
+ghost use Rattle.reclaiming.specs.Covered.{covered};
+ghost use Rattle.reclaiming.specs.Ranks.{Ranks, marked, Marks, sums};
 
 // ---- the victim
 
@@ -30,4 +34,63 @@ pub fn victim_of(blk: &[u32], blocks: u32) -> u32
         b += 1;
     }
     v
+}
+
+// ---- where the victim's pages go
+
+// Ones at the offsets of slot i, where it lies in block v.
+fn mark_slot(marks: &mut [u32], ext: &[u32], i: usize, n: u32, v: u32)
+    requires { ⌜ (3 * i + 2 < length (now ext)) × (1 ≤ n) × (n ≤ length (now marks)) × (slot (now ext) i .physical % n + slot (now ext) i .count ≤ n) ⌝ }
+    ensures { λ _. ⌜ now (marks .exit) ≡ marked (slot (now (ext .entry)) i) n v (now (marks .entry)) ⌝ }
+{
+    let at = 3 * i;
+    let p = ext[at + 1];
+    if p / n != v {
+        return;
+    }
+    let o = (p % n) as usize;
+    let c = ext[at + 2] as usize;
+    words::fill_with(&mut marks[o..o + c], 1);
+}
+
+// Ones at the offsets of the mapped pages of block v.
+fn mark_slots(marks: &mut [u32], ext: &[u32], used: usize, n: u32, v: u32)
+    requires { ⌜ (3 * used ≤ length (now ext)) × (1 ≤ n) × (n ≤ length (now marks)) ⌝ }
+    requires { ⌜ ((i : ℕ) → i < used → slot (now ext) i .physical % n + slot (now ext) i .count ≤ n) ⌝ }
+    requires { ⌜ ((o : ℕ) → o < n → getD (now marks) o 0 ≡ 0) ⌝ }
+    ensures { λ _. ⌜ Marks (now (ext .entry)) used n v (now (marks .exit)) ⌝ }
+{
+    let mut i: usize = 0;
+    while i < used {
+        mark_slot(marks, ext, i, n, v);
+        i += 1;
+    }
+}
+
+// At each offset up to n the sum of the marks before it.
+fn add_up(marks: &mut [u32], n: usize)
+    requires { ⌜ (n < length (now marks)) × (n ≤ 256) × ((o : ℕ) → o < n → getD (now marks) o 0 ≤ 1) ⌝ }
+    ensures { λ _. ⌜ now (marks .exit) ≡ stored (sums (now (marks .entry))) (n + 1) (now (marks .entry)) ⌝ }
+{
+    let mut k: u32 = 0;
+    let mut o: usize = 0;
+    while o < n {
+        let m = marks[o];
+        marks[o] = k;
+        k += m;
+        o += 1;
+    }
+    marks[n] = k;
+}
+
+// The rank of each offset of block v, and at n the number of its mapped pages.
+pub fn ranks_of(ext: &[u32], used: usize, n: u32, v: u32) -> [u32; 257]
+    requires { ⌜ (3 * used ≤ length (now ext)) × (1 ≤ n) × (n ≤ 256) ⌝ }
+    requires { ⌜ ((i : ℕ) → i < used → slot (now ext) i .physical % n + slot (now ext) i .count ≤ n) ⌝ }
+    ensures { λ ranks. ⌜ Ranks n (covered (slots (now (ext .entry)) 0 used) n v) ranks ⌝ }
+{
+    let mut ranks = [0u32; 257];
+    mark_slots(&mut ranks, ext, used, n, v);
+    add_up(&mut ranks, n as usize);
+    ranks
 }
