@@ -14,7 +14,7 @@ use lib.Dec.{eqb, ltb}
 use lib.ListN.{length, getD, set, take, drop, replicate, length-replicate, getD-replicate}
 use lib.Seq.{sets, sets-eq, length-sets, drop-drop}
 use Rattle.rules.specs.Counting.{one, sum, count, picks}
-use Rattle.rules.specs.Extents.{slot, slots}
+use Rattle.rules.specs.Extents.{none, slot, slots}
 use Rattle.rules.specs.declared.Extent.{Extent}
 use Rattle.laws.specs.Bools.{cases}
 use Rattle.laws.specs.Sums.{count-sum, sum-same, count-le, count-same, one-le}
@@ -27,6 +27,13 @@ use Rattle.reclaiming.specs.Covered.{holds, covered, holds-true, holds-l
 pub record Ranks (n : ℕ) (live : ℕ → Bool) (ranks : List ℕ) : Type 0 where
   pub long : n < length ranks
   pub rank : (o : ℕ) → o ≤ n → getD ranks o 0 ≡ count o live
+
+-- what it takes to put the pages of a block into block r
+pub record Movable (n r : ℕ) (ranks : List ℕ) : Type 0 where
+  pub some : 1 ≤ n
+  pub room : r * n + n ≤ none
+  pub long : n < length ranks
+  pub low : (o : ℕ) → o < n → getD ranks o 0 ≤ o
 
 -- an offset is live where the rank behind it is greater
 unfoldable pub rises : List ℕ → ℕ → Bool
@@ -161,6 +168,10 @@ module _ (n : ℕ) (live : ℕ → Bool) (ranks : List ℕ) (r : Ranks n live ra
       cases (live o)
       (λ t. lt-ltb (getD ranks o 0) (getD ranks (o + 1) 0) (omega (arith, rank-next o h, ap one t)) ∙ sym t)
       (λ t. le-ltb (getD ranks o 0) (getD ranks (o + 1) 0) (omega (arith, rank-next o h, ap one t)) ∙ sym t)
+
+  -- a page of the victim has its place in block r
+  pub ranks-movable : (r : ℕ) → 1 ≤ n → r * n + n ≤ none → Movable n r ranks
+  ranks-movable b some room = record { some = some; room = room; long = r .long; low = λ o h. rank-le o (omega arith) }
 
   pub ranks-rise : Ranks n (rises ranks) ranks
   ranks-rise = record {

@@ -14,7 +14,7 @@ use lib.ListN.{length, getD, replicate, length-map}
 use Rattle.rules.specs.Counting.{one, count}
 use Rattle.rules.specs.Extents.{none, extent, joinable, join, slot, slots, flat}
 use Rattle.rules.specs.declared.Extent.{Extent}
-use Rattle.laws.specs.Bools.{cases, same-test}
+use Rattle.laws.specs.Bools.{cases, never, same-test}
 use Rattle.laws.specs.Sums.{count-first, count-same, count-le}
 use Rattle.laws.specs.Cells.{map-at, map-same}
 use Rattle.laws.specs.Slots.{slots-length, slots-at}
@@ -65,6 +65,19 @@ places-moved n ranks v r live es z h =
 pub joinable-second : (n : ℕ) (a b c : Extent) → b .logical ≡ c .logical → b .physical ≡ c .physical → joinable n a b ≡ joinable n a c
 unfolding joinable
 joinable-second n a b c l p = rw (l, p)
+
+-- ---- tested one by one
+
+module _ (n : ℕ) (a b : Extent) where
+  pub other-block : (a .physical / n ≡ b .physical / n → ⊥) → false ≡ joinable n a b
+  other-block f = sym (never (joinable n a b) (λ t. f (joinable-true n a b t .block)))
+
+  pub other-logical : (b .logical ≡ a .logical + a .count → ⊥) → false ≡ joinable n a b
+  other-logical f = sym (never (joinable n a b) (λ t. f (joinable-true n a b t .logical)))
+
+  pub same-physical : a .physical / n ≡ b .physical / n → b .logical ≡ a .logical + a .count → eqb (b .physical) (a .physical + a .count) ≡ joinable n a b
+  unfolding joinable
+  same-physical d l = rw (eq-eqb (a .physical / n) (b .physical / n) d, eq-eqb (b .logical) (a .logical + a .count) l)
 
 -- two joined end where the second ended
 pub joinable-both : (n : ℕ) (a b c : Extent) → joinable n a b ≡ true → joinable n (extent (a .logical) (a .physical) (a .count + b .count)) c ≡ joinable n b c

@@ -2,16 +2,17 @@
 use Prim.Native.Nat.{ℕ, zero, suc, _+_, _*_, _-_, _<_, _≤_}
 use mathlib.Core.Bool.{Bool, true, false, _&&_, false≢true}
 use mathlib.Core.Path.{_≡_, refl, sym, ap, ap₂, _∙_}
-use mathlib.Core.List.{List, [], _∷_, _++_, map, append-assoc}
+use mathlib.Core.List.{List, [], _∷_, _++_, map, map-append, append-assoc}
 use mathlib.Core.Logic.{by-cases}
 use native.Mathlib.Omega.{arith}
 use native.Mathlib.Decide.{decLt}
+use native.Mathlib.Numerals.{add-one}
 use borrow.Author.Tests.{lt-ltb, le-ltb, ltb-true}
 use borrow.Rule.Slice.PartMut.{midOf, putMid}
 use lib.Dec.{ltb}
 use lib.ListN.{length, getD, set, take, drop, replicate, length-map, length-drop, length-set}
 use lib.Seq.{getD-set-same, getD-set-other}
-use Rattle.rules.specs.Counting.{count}
+use Rattle.rules.specs.Counting.{one, count}
 use Rattle.rules.specs.Extents.{none, extent, end, joinable, join, slot, slots, flat}
 use Rattle.rules.specs.declared.Extent.{Extent}
 use Rattle.laws.specs.Bools.{and-split, cases}
@@ -46,17 +47,25 @@ slots-same ws ws′ i (suc u) h =
     (slot-same ws ws′ i (λ k a b. h k a (omega arith)))
     (slots-same ws ws′ (i + 1) u (λ k a b. h k (omega arith) (omega arith)))
 
-map-more : (f : Extent → Extent) (es : List Extent) (e : Extent) → map f (es ++ e ∷ []) ≡ map f es ++ f e ∷ []
-map-more f [] e = refl
-map-more f (x ∷ es) e = ap (λ (ys : List Extent). f x ∷ ys) (map-more f es e)
-
 -- ---- how many extents once each slot's page has moved
 
 pub slots-move : (ws : List ℕ) (u : ℕ) (g : ℕ → ℕ) (i : ℕ) (z : Extent) → i < u → getD (map (move g) (slots ws 0 u)) i z ≡ move g (slot ws i)
 slots-move ws u g i z h =
     map-at z (move g) (slots ws 0 u) i z (omega (arith, slots-length ws 0 u)) ∙ ap (move g) (slots-at ws 0 u i i z h (omega arith))
 
-pub joined-count : (ws : List ℕ) (u n : ℕ) (g : ℕ → ℕ) (k i : ℕ) → i ≡ u - 1
+-- slot j is joinable with the next once their pages have moved
+abbrev pub joinsAfter : ℕ → List ℕ → ℕ → ℕ → List ℕ → ℕ → Bool
+joinsAfter n ranks v r ws j = joinable n (move (place n ranks v r) (slot ws j)) (move (place n ranks v r) (slot ws (j + 1)))
+
+pub count-start : (t : ℕ → Bool) → count 0 t ≡ 0
+unfolding count
+count-start t = refl
+
+pub count-next : (t : ℕ → Bool) (i : ℕ) (b : Bool) → b ≡ t i → count (i + 1) t ≡ count i t + one b
+unfolding count
+count-next t i b e = rw (add-one i, e)
+
+joined-count : (ws : List ℕ) (u n : ℕ) (g : ℕ → ℕ) (k i : ℕ) → i ≡ u - 1
     → k + count i (λ j. joinable n (move g (slot ws j)) (move g (slot ws (j + 1)))) ≡ u
     → k ≡ length (norm n (map (move g) (slots ws 0 u)))
 joined-count ws u n g k i e h =
@@ -72,7 +81,7 @@ joined-count ws u n g k i e h =
     )
 
 pub remapped-count : (ws : List ℕ) (u n : ℕ) (ranks : List ℕ) (v r k i : ℕ) → 0 < n → Ranks n (covered (slots ws 0 u) n v) ranks → i ≡ u - 1
-    → k + count i (λ j. joinable n (move (place n ranks v r) (slot ws j)) (move (place n ranks v r) (slot ws (j + 1)))) ≡ u
+    → k + count i (joinsAfter n ranks v r ws) ≡ u
     → k ≡ length (remapped n v r (slots ws 0 u))
 unfolding remapped
 remapped-count ws u n ranks v r k i z h e c =
@@ -102,7 +111,7 @@ renamed-step g ws ws′ i x l h e =
           (other (3 * i) (omega arith) ∙ h .rest (3 * i) (omega arith))
           (getD-set-same ws′ (3 * i + 1) x 0 (omega arith) ∙ e ∙ ap g (h .rest (3 * i + 1) (omega arith)))
           (other (3 * i + 2) (omega arith) ∙ h .rest (3 * i + 2) (omega arith)))
-          ∙ sym (ap (map (move g)) (slots-more ws 0 i i (omega arith)) ∙ map-more (move g) (slots ws 0 i) (slot ws i));
+          ∙ sym (ap (map (move g)) (slots-more ws 0 i i (omega arith)) ∙ map-append (move g) (slots ws 0 i) (slot ws i ∷ []));
       rest = λ k a. other k (omega arith) ∙ h .rest k (omega arith);
     }
 

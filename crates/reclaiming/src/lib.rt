@@ -1,15 +1,19 @@
 // What a reclaim does to lent words: the victim, where its pages go, and then the list of copies, the labels, the block records and the
 // map, each by itself. It stands behind the refusals: what a sound state promises is required here.
+use rules::Extent;
 ghost use mathlib.Core.Path.{_≡_};
 ghost use Prim.Native.Nat.{ℕ, _+_, _-_, _*_, _/_, _%_, _<_, _≤_, _^_};
 ghost use lib.ListN.{length, getD, set, take};
 ghost use Rattle.rules.specs.Counting.{most};
 ghost use Rattle.rules.specs.Blocks.{stride, fillWord, validWord};
-ghost use Rattle.rules.specs.Extents.{slot, slots};
+ghost use Rattle.rules.specs.Extents.{none, joinable, slot, slots};
+ghost use Rattle.laws.specs.Norm.{norm, move};
 ghost use Rattle.words.specs.Store.{stored};
 ghost use Rattle.reclaiming.specs.Stale.{staleWord};
 ghost use Rattle.reclaiming.specs.Covered.{covered};
-ghost use Rattle.reclaiming.specs.Ranks.{Ranks, marked, Marks, sums};
+ghost use Rattle.reclaiming.specs.Ranks.{Ranks, Movable, marked, Marks, sums};
+ghost use Rattle.reclaiming.specs.Remapped.{place, remapped, laid};
+ghost use Rattle.reclaiming.specs.Slot.{Ends, put, joinsLast, Pushed};
 
 // ---- the victim
 
@@ -93,4 +97,76 @@ pub fn ranks_of(ext: &[u32], used: usize, n: u32, v: u32) -> [u32; 257]
     mark_slots(&mut ranks, ext, used, n, v);
     add_up(&mut ranks, n as usize);
     ranks
+}
+
+// The page that page p goes to.
+fn page_after(p: u32, n: u32, v: u32, r: u32, ranks: &[u32]) -> u32
+    requires { ⌜ Movable n r (now ranks) ⌝ }
+    ensures { λ q. ⌜ q ≡ place n (now (ranks .entry)) v r p ⌝ }
+{
+    if p / n != v {
+        return p;
+    }
+    let o = (p % n) as usize;
+    r * n + ranks[o]
+}
+
+// ---- the map
+
+fn slot_at(ext: &[u32], i: usize) -> Extent
+    requires { ⌜ 3 * i + 2 < length (now ext) ⌝ }
+    ensures { λ e. ⌜ e ≡ slot (now (ext .entry)) i ⌝ }
+{
+    let at = 3 * i;
+    Extent {
+        logical: ext[at],
+        physical: ext[at + 1],
+        count: ext[at + 2],
+    }
+}
+
+// Ends as whole numbers.
+fn joins(a: Extent, b: Extent, n: u32) -> bool
+    requires { ⌜ 1 ≤ n ⌝ }
+    ensures { λ t. ⌜ t ≡ joinable n a b ⌝ }
+{
+    if a.physical / n != b.physical / n {
+        return false;
+    }
+    if (b.logical as u64) != (a.logical as u64) + (a.count as u64) {
+        return false;
+    }
+    (b.physical as u64) == (a.physical as u64) + (a.count as u64)
+}
+
+// Slot i with its first page moved: the others go along.
+fn slot_after(ext: &[u32], i: usize, n: u32, v: u32, r: u32, ranks: &[u32]) -> Extent
+    requires { ⌜ (3 * i + 2 < length (now ext)) × Movable n r (now ranks) ⌝ }
+    ensures { λ e. ⌜ e ≡ move (place n (now (ranks .entry)) v r) (slot (now (ext .entry)) i) ⌝ }
+{
+    let at = 3 * i;
+    let p = page_after(ext[at + 1], n, v, r, ranks);
+    Extent {
+        logical: ext[at],
+        physical: p,
+        count: ext[at + 2],
+    }
+}
+
+// How many extents the map has afterwards.
+pub fn joined_of(ext: &[u32], used: usize, n: u32, v: u32, r: u32, ranks: &[u32]) -> usize
+    requires { ⌜ (3 * used ≤ length (now ext)) × (1 ≤ n) × (r * n + n ≤ none) × Ranks n (covered (slots (now ext) 0 used) n v) (now ranks) ⌝ }
+    ensures { λ k. ⌜ k ≡ length (remapped n v r (slots (now (ext .entry)) 0 used)) ⌝ }
+{
+    let mut k = used;
+    let mut i: usize = 0;
+    while i + 1 < used {
+        let a = slot_after(ext, i, n, v, r, ranks);
+        let b = slot_after(ext, i + 1, n, v, r, ranks);
+        if joins(a, b, n) {
+            k -= 1;
+        }
+        i += 1;
+    }
+    k
 }
