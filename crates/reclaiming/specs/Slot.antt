@@ -1,7 +1,7 @@
 -- Slots stored one by one: each renamed in its place, or pushed behind the slots that stand already and joined with the last of them.
 use Prim.Native.Nat.{ℕ, zero, suc, _+_, _*_, _-_, _<_, _≤_}
 use mathlib.Core.Bool.{Bool, true, false, _&&_, false≢true}
-use mathlib.Core.Path.{_≡_, refl, sym, ap, ap₂, _∙_}
+use mathlib.Core.Path.{_≡_, refl, sym, ap, ap₂, _∙_, subst}
 use mathlib.Core.List.{List, [], _∷_, _++_, map, map-append, append-assoc}
 use mathlib.Core.Logic.{by-cases}
 use native.Mathlib.Omega.{arith}
@@ -155,9 +155,9 @@ joins-last n ws w x e =
     let s = and-split (ltb 0 w) (joinable n (slot ws (w - 1)) x) e in
     record { some = ltb-true 0 w (s .0); meets = s .1; logical = sym (joinable-true n (slot ws (w - 1)) x (s .1) .logical) }
 
-pub pushed-joined : (n : ℕ) (ws : List ℕ) (w i : ℕ) → w ≤ i → 3 * i + 2 < length ws → joinsLast n ws w (slot ws i) ≡ true
+joined : (n : ℕ) (ws : List ℕ) (w i : ℕ) → w ≤ i → 3 * i + 2 < length ws → joinsLast n ws w (slot ws i) ≡ true
     → Pushed n ws w i (set ws (3 * (w - 1) + 2) (getD ws (3 * (w - 1) + 2) 0 + slot ws i .count)) w
-pushed-joined n ws w i h l t =
+joined n ws w i h l t =
     let last = joins-last n ws w (slot ws i) t in
     let j = w - 1 in
     let a = slot ws j in
@@ -176,6 +176,11 @@ pushed-joined n ws w i h l t =
       rest = λ k p. other k (omega (arith, last .some));
       few = omega arith;
     }
+
+pub pushed-joined : (n : ℕ) (ws : List ℕ) (w i : ℕ) (x : Extent) → w ≤ i → 3 * i + 2 < length ws → x ≡ slot ws i → joinsLast n ws w (slot ws i) ≡ true
+    → Pushed n ws w i (set ws (3 * (w - 1) + 2) (getD ws (3 * (w - 1) + 2) 0 + x .count)) w
+pushed-joined n ws w i x h l e t =
+    subst (λ (y : Extent). Pushed n ws w i (set ws (3 * (w - 1) + 2) (getD ws (3 * (w - 1) + 2) 0 + y .count)) w) (sym e) (joined n ws w i h l t)
 
 put-other : (ws : List ℕ) (i : ℕ) (e : Extent) (k : ℕ) → (3 * i ≤ k → k < 3 * i + 3 → ⊥) → getD (put ws i e) k 0 ≡ getD ws k 0
 put-other ws i e k f =
@@ -209,9 +214,9 @@ push-apart n ws (suc j) x t =
     ∙ ap (λ (es : List Extent). slots ws 0 j ++ es) (join-apart n (slot ws j) x [] e′)
     ∙ sym (ap (λ (es : List Extent). es ++ x ∷ []) more ∙ append-assoc (slots ws 0 j) (slot ws j ∷ []) (x ∷ []))
 
-pub pushed-apart : (n : ℕ) (ws : List ℕ) (w i : ℕ) → w ≤ i → 3 * i + 2 < length ws → joinsLast n ws w (slot ws i) ≡ false
+apart : (n : ℕ) (ws : List ℕ) (w i : ℕ) → w ≤ i → 3 * i + 2 < length ws → joinsLast n ws w (slot ws i) ≡ false
     → Pushed n ws w i (put ws w (slot ws i)) (w + 1)
-pushed-apart n ws w i h l t =
+apart n ws w i h l t =
     let x = slot ws i in
     let ws′ = put ws w x in
     record {
@@ -221,6 +226,11 @@ pushed-apart n ws w i h l t =
       rest = λ k p. put-other ws w x k (λ a b. omega arith);
       few = omega arith;
     }
+
+pub pushed-apart : (n : ℕ) (ws ws′ : List ℕ) (w i : ℕ) (x : Extent) → w ≤ i → 3 * i + 2 < length ws → x ≡ slot ws i → joinsLast n ws w (slot ws i) ≡ false
+    → ws′ ≡ put ws w x → Pushed n ws w i ws′ (w + 1)
+pushed-apart n ws ws′ w i x h l e t p =
+    subst (λ (zs : List ℕ). Pushed n ws w i zs (w + 1)) (sym (p ∙ ap (put ws w) e)) (apart n ws w i h l t)
 
 -- after i slots: w stand, joined, and the others are as they were
 pub record Packed (n : ℕ) (ws : List ℕ) (i : ℕ) (ws′ : List ℕ) (w : ℕ) : Type 0 where

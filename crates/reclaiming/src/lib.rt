@@ -3,10 +3,11 @@
 use rules::Extent;
 ghost use mathlib.Core.Path.{_≡_};
 ghost use Prim.Native.Nat.{ℕ, _+_, _-_, _*_, _/_, _%_, _<_, _≤_, _^_};
+ghost use mathlib.Core.List.{map};
 ghost use lib.ListN.{length, getD, set, take};
 ghost use Rattle.rules.specs.Counting.{most};
 ghost use Rattle.rules.specs.Blocks.{stride, fillWord, validWord};
-ghost use Rattle.rules.specs.Extents.{none, joinable, slot, slots};
+ghost use Rattle.rules.specs.Extents.{none, end, joinable, slot, slots};
 ghost use Rattle.laws.specs.Norm.{norm, move};
 ghost use Rattle.words.specs.Store.{stored};
 ghost use Rattle.reclaiming.specs.Stale.{staleWord};
@@ -169,4 +170,78 @@ pub fn joined_of(ext: &[u32], used: usize, n: u32, v: u32, r: u32, ranks: &[u32]
         i += 1;
     }
     k
+}
+
+// The first page of each slot moved, in its place.
+fn rename(ext: &mut [u32], used: usize, n: u32, v: u32, r: u32, ranks: &[u32])
+    requires { ⌜ (3 * used ≤ length (now ext)) × Movable n r (now ranks) ⌝ }
+    ensures { λ _. ⌜ slots (now (ext .exit)) 0 used ≡ map (move (place n (now (ranks .entry)) v r)) (slots (now (ext .entry)) 0 used) ⌝ }
+{
+    let mut i: usize = 0;
+    while i < used {
+        let at = 3 * i + 1;
+        let p = page_after(ext[at], n, v, r, ranks);
+        ext[at] = p;
+        i += 1;
+    }
+}
+
+fn put_slot(ext: &mut [u32], i: usize, e: Extent)
+    requires { ⌜ 3 * i + 2 < length (now ext) ⌝ }
+    ensures { λ _. ⌜ now (ext .exit) ≡ put (now (ext .entry)) i e ⌝ }
+{
+    let at = 3 * i;
+    ext[at] = e.logical;
+    ext[at + 1] = e.physical;
+    ext[at + 2] = e.count;
+}
+
+// Slot i is joinable with the last of the first w slots.
+fn joins_last(ext: &[u32], w: usize, i: usize, n: u32) -> bool
+    requires { ⌜ (1 ≤ n) × (w ≤ i) × (3 * i + 2 < length (now ext)) ⌝ }
+    ensures { λ t. ⌜ t ≡ joinsLast n (now (ext .entry)) w (slot (now (ext .entry)) i) ⌝ }
+{
+    if w == 0 {
+        return false;
+    }
+    joins(slot_at(ext, w - 1), slot_at(ext, i), n)
+}
+
+// Slot i pushed behind the first w slots: how many stand then.
+fn push_slot(ext: &mut [u32], w: usize, i: usize, n: u32) -> usize
+    requires { ⌜ (1 ≤ n) × (w ≤ i) × (3 * i + 2 < length (now ext)) × (end (slot (now ext) i) ≤ none) ⌝ }
+    ensures { λ k. ⌜ Pushed n (now (ext .entry)) w i (now (ext .exit)) k ⌝ }
+{
+    let x = slot_at(ext, i);
+    if joins_last(ext, w, i, n) {
+        let at = 3 * (w - 1) + 2;
+        ext[at] += x.count;
+        return w;
+    }
+    put_slot(ext, w, x);
+    w + 1
+}
+
+// The slots joined from the left, and zeros behind them: how many there are.
+fn compact(ext: &mut [u32], used: usize, n: u32) -> usize
+    requires { ⌜ (3 * used ≤ length (now ext)) × (1 ≤ n) × Ends (now ext) used ⌝ }
+    ensures { λ w. ⌜ (w ≡ length (norm n (slots (now (ext .entry)) 0 used))) × (now (ext .exit) ≡ laid (norm n (slots (now (ext .entry)) 0 used)) (length (now (ext .entry)))) ⌝ }
+{
+    let mut w: usize = 0;
+    let mut i: usize = 0;
+    while i < used {
+        w = push_slot(ext, w, i, n);
+        i += 1;
+    }
+    words::fill_with(&mut ext[3 * w..], 0);
+    w
+}
+
+// The map afterwards: how many extents it has.
+pub fn move_map(ext: &mut [u32], used: usize, n: u32, v: u32, r: u32, ranks: &[u32]) -> usize
+    requires { ⌜ (3 * used ≤ length (now ext)) × (1 ≤ n) × (r * n + n ≤ none) × Ranks n (covered (slots (now ext) 0 used) n v) (now ranks) × Ends (now ext) used ⌝ }
+    ensures { λ w. ⌜ (w ≡ length (remapped n v r (slots (now (ext .entry)) 0 used))) × (now (ext .exit) ≡ laid (remapped n v r (slots (now (ext .entry)) 0 used)) (length (now (ext .entry)))) ⌝ }
+{
+    rename(ext, used, n, v, r, ranks);
+    compact(ext, used, n)
 }
