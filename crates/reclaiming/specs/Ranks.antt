@@ -21,6 +21,7 @@ use Rattle.laws.specs.Sums.{count-sum, sum-same, count-le, count-same, one-le}
 use Rattle.laws.specs.Cells.{sets-in, sets-other}
 use Rattle.laws.specs.Slots.{slots-more}
 use Rattle.words.specs.Store.{stored, stored-start, stored-next, stored-read, stored-length}
+use Rattle.reclaiming.specs.Part.{part-filled}
 use Rattle.reclaiming.specs.Covered.{holds, covered, holds-true, holds-low, holds-high, holds-block, covered-more}
 
 -- the ranks of the offsets up to n, where live says which are live
@@ -107,13 +108,7 @@ marks-more ws u n v ms ms′ s l m e o h =
 pub marked-put : (e : Extent) (n v : ℕ) (ms ys : List ℕ) → e .physical / n ≡ v → e .physical % n + e .count ≤ n → n ≤ length ms
     → ys ≡ ones (length (midOf (e .physical % n) (e .physical % n + e .count - e .physical % n) ms))
     → putMid (e .physical % n) (e .physical % n + e .count - e .physical % n) ms ys ≡ marked e n v ms
-marked-put e n v ms ys here s l eq =
-    let o = e .physical % n in
-    let k : o + e .count - o ≡ e .count = omega arith in
-    let w : length (ones (e .count)) ≡ e .count = length-replicate (e .count) 1 in
-    let m : length (midOf o (o + e .count - o) ms) ≡ e .count = mid-len o (o + e .count) ms (omega arith) ∙ k in
-    rw (eq, m, k, drop-drop, marked-here e n v ms here, sets-eq (ones (e .count)) ms o (omega arith), w)
-    (sym (append-assoc (take o ms) (ones (e .count)) (drop (o + e .count) ms)))
+marked-put e n v ms ys here s l eq = part-filled (e .physical % n) (e .count) ms ys 1 (omega arith) eq ∙ sym (marked-here e n v ms here)
 
 -- ---- sums of the marks before each offset
 
