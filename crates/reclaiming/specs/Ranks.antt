@@ -17,7 +17,7 @@ use Rattle.rules.specs.Counting.{one, sum, count, picks}
 use Rattle.rules.specs.Extents.{none, slot, slots}
 use Rattle.rules.specs.declared.Extent.{Extent}
 use Rattle.laws.specs.Bools.{cases}
-use Rattle.laws.specs.Sums.{count-sum, sum-same, count-le, count-same, one-le}
+use Rattle.laws.specs.Sums.{count-sum, sum-same, count-le, count-same, count-rise}
 use Rattle.laws.specs.Cells.{sets-in, sets-other}
 use Rattle.laws.specs.Slots.{slots-more}
 use Rattle.words.specs.Store.{stored, stored-start, stored-next, stored-read, stored-length}
@@ -39,6 +39,14 @@ pub record Movable (n r : ℕ) (ranks : List ℕ) : Type 0 where
 -- an offset is live where the rank behind it is greater
 unfoldable pub rises : List ℕ → ℕ → Bool
 rises ranks o = ltb (getD ranks o 0) (getD ranks (o + 1) 0)
+
+pub rise-true : (ranks : List ℕ) (o : ℕ) → getD ranks o 0 < getD ranks (o + 1) 0 → rises ranks o ≡ true
+unfolding rises
+rise-true ranks o h = lt-ltb (getD ranks o 0) (getD ranks (o + 1) 0) h
+
+pub rise-false : (ranks : List ℕ) (o : ℕ) → getD ranks (o + 1) 0 ≤ getD ranks o 0 → rises ranks o ≡ false
+unfolding rises
+rise-false ranks o h = le-ltb (getD ranks o 0) (getD ranks (o + 1) 0) h
 
 -- ---- marks: 1 for each live offset
 
@@ -157,12 +165,14 @@ module _ (n : ℕ) (live : ℕ → Bool) (ranks : List ℕ) (r : Ranks n live ra
   unfolding count
   rank-next o h = omega (arith, r .rank (o + 1) (omega arith), ap (λ (k : ℕ). count k live) (add-one o), r .rank o (omega arith))
 
+  pub rank-lt : (o : ℕ) → o < n → live o ≡ true → getD ranks o 0 < count n live
+  rank-lt o h t = omega (arith, r .rank o (omega arith), count-rise o n live h t)
+
   pub rises-live : (o : ℕ) → o < n → rises ranks o ≡ live o
-  unfolding rises
   rises-live o h =
       cases (live o)
-      (λ t. lt-ltb (getD ranks o 0) (getD ranks (o + 1) 0) (omega (arith, rank-next o h, ap one t)) ∙ sym t)
-      (λ t. le-ltb (getD ranks o 0) (getD ranks (o + 1) 0) (omega (arith, rank-next o h, ap one t)) ∙ sym t)
+      (λ t. rise-true ranks o (omega (arith, rank-next o h, ap one t)) ∙ sym t)
+      (λ t. rise-false ranks o (omega (arith, rank-next o h, ap one t)) ∙ sym t)
 
   -- a page of the victim has its place in block r
   pub ranks-movable : (r : ℕ) → 1 ≤ n → r * n + n ≤ none → Movable n r ranks

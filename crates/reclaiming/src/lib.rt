@@ -5,16 +5,22 @@ ghost use mathlib.Core.Path.{_≡_};
 ghost use Prim.Native.Nat.{ℕ, _+_, _-_, _*_, _/_, _%_, _<_, _≤_, _^_};
 ghost use mathlib.Core.List.{map};
 ghost use lib.ListN.{length, getD, set, take};
-ghost use Rattle.rules.specs.Counting.{most};
+ghost use Rattle.rules.specs.Counting.{most, count};
 ghost use Rattle.rules.specs.Blocks.{stride, fillWord, validWord};
 ghost use Rattle.rules.specs.Extents.{none, end, joinable, slot, slots};
+ghost use Rattle.rules.specs.Reclaim.{moved};
+ghost use Rattle.rules.specs.Calls.{over};
+ghost use Rattle.laws.specs.Cells.{copies};
 ghost use Rattle.laws.specs.Norm.{norm, move};
 ghost use Rattle.words.specs.Store.{stored};
 ghost use Rattle.reclaiming.specs.Stale.{staleWord};
 ghost use Rattle.reclaiming.specs.Covered.{covered};
-ghost use Rattle.reclaiming.specs.Ranks.{Ranks, Movable, marked, Marks, sums};
+ghost use Rattle.reclaiming.specs.Ranks.{Ranks, Movable, rises, marked, Marks, sums};
 ghost use Rattle.reclaiming.specs.Remapped.{place, remapped, laid};
 ghost use Rattle.reclaiming.specs.Slot.{Ends, put, joinsLast, Pushed};
+ghost use Rattle.reclaiming.specs.Sources.{livePages};
+ghost use Rattle.reclaiming.specs.Labels.{Copied};
+ghost use Rattle.reclaiming.specs.Emptied.{putRecord, emptied};
 
 // ---- the victim
 
@@ -110,6 +116,73 @@ fn page_after(p: u32, n: u32, v: u32, r: u32, ranks: &[u32]) -> u32
     }
     let o = (p % n) as usize;
     r * n + ranks[o]
+}
+
+// ---- the list of copies
+
+// The mapped pages of block v, in physical order: offset o is mapped where the rank rises behind it.
+pub fn list_sources(ranks: &[u32], n: u32, v: u32, out: &mut [u32])
+    requires { ⌜ Ranks n (rises (now ranks)) (now ranks) × (count n (rises (now ranks)) ≤ length (now out)) × (v * n + n ≤ none) ⌝ }
+    ensures { λ _. ⌜ now (out .exit) ≡ over (livePages n v (rises (now (ranks .entry)))) (now (out .entry)) ⌝ }
+{
+    let mut o: u32 = 0;
+    while o < n {
+        let at = o as usize;
+        let rank = ranks[at];
+        if rank < ranks[at + 1] {
+            out[rank as usize] = v * n + o;
+        }
+        o += 1;
+    }
+}
+
+// ---- the labels
+
+const NONE: u32 = 4294967295;
+
+// The labels of the first k pages listed, copied one after the other.
+fn copy_labels(spare: &mut [u32], out: &[u32], k: usize, to: usize)
+    requires { ⌜ (k ≤ length (now out)) × (to + k ≤ length (now spare)) × ((i : ℕ) → i < k → getD (now out) i 0 < length (now spare)) ⌝ }
+    ensures { λ _. ⌜ now (spare .exit) ≡ copies none to (take k (now (out .entry))) (now (spare .entry)) ⌝ }
+{
+    let mut i: usize = 0;
+    while i < k {
+        let label = spare[out[i] as usize];
+        spare[to + i] = label;
+        i += 1;
+    }
+}
+
+// The labels go along with the copies, and the victim's are erased.
+pub fn move_labels(spare: &mut [u32], out: &[u32], k: usize, n: u32, r: u32, v: u32)
+    requires { ⌜ Copied n r v (now out) k (length (now spare)) ⌝ }
+    ensures { λ _. ⌜ now (spare .exit) ≡ moved none n r v (take k (now (out .entry))) (now (spare .entry)) ⌝ }
+{
+    let pages = n as usize;
+    let to = (r as usize) * pages;
+    let from = (v as usize) * pages;
+    copy_labels(spare, out, k, to);
+    words::fill_with(&mut spare[from..from + pages], NONE);
+}
+
+// ---- the block records
+
+fn put_record(blk: &mut [u32], b: usize, fill: u32, valid: u32)
+    requires { ⌜ stride * b + 1 < length (now blk) ⌝ }
+    ensures { λ _. ⌜ now (blk .exit) ≡ putRecord (now (blk .entry)) b fill valid ⌝ }
+{
+    words::put_fill(blk, b, fill);
+    words::put_valid(blk, b, valid);
+}
+
+// The old reserve has the victim's valid pages and nothing else, and the victim nothing.
+pub fn move_blocks(blk: &mut [u32], r: u32, v: u32)
+    requires { ⌜ (stride * r + 1 < length (now blk)) × (stride * v + 1 < length (now blk)) ⌝ }
+    ensures { λ _. ⌜ now (blk .exit) ≡ emptied r v (now (blk .entry)) ⌝ }
+{
+    let valid = words::valid_of(blk, v as usize);
+    put_record(blk, r as usize, valid, valid);
+    put_record(blk, v as usize, 0, 0);
 }
 
 // ---- the map
