@@ -7,3 +7,4 @@ pub mod Slot
 pub mod Sources
 pub mod Labels
 pub mod Emptied
+pub mod Reclaims
