@@ -8,7 +8,7 @@ use native.Mathlib.Omega.{arith}
 use native.Mathlib.Decide.{decLt, ℕ-discrete}
 use native.Mathlib.Nat.{mod-lt}
 use lib.Dec.{ltb}
-use lib.ListN.{length, getD, set, take, drop, replicate, length-append, length-drop}
+use lib.ListN.{length, getD, set, take, drop, replicate, length-append, length-drop, List·getD-append}
 use lib.Seq.{ext-getD, take-append-seam, take-append-le, take-length}
 use Rattle.rules.specs.Counting.{count, most, picks, tabulate}
 use Rattle.rules.specs.Extents.{none, extent, end, lookup, slot, slots, flat}
@@ -38,9 +38,10 @@ use Rattle.reclaiming.specs.Stale.{staleWord}
 use Rattle.reclaiming.specs.Covered.{holds, covered, holds-true, true-holds}
 use Rattle.reclaiming.specs.Ranks.{Ranks, rises, rises-live, ranks-rise}
 use Rattle.reclaiming.specs.Remapped.{remapped, laid}
-use Rattle.reclaiming.specs.Sources.{livePages, pages-same}
+use Rattle.reclaiming.specs.Sources.{livePages, pages-same, length-below, length-over}
+use Rattle.reclaiming.specs.Slot.{Ends}
 use Rattle.reclaiming.specs.Labels.{Copied}
-use Rattle.reclaiming.specs.Emptied.{putRecord, emptied, record-length, record-fill, record-valid, other-fill, other-valid}
+use Rattle.reclaiming.specs.Emptied.{emptied, emptied-length, victim-fill, victim-valid, reserve-fill, reserve-valid, rest-fill, rest-valid}
 
 -- ---- what the extents hold and what they say of a line
 
@@ -96,7 +97,28 @@ tabulate-same fs =
     ext-getD 0 (tabulate (length fs) (λ i. getD fs i 0)) fs (length-tabulate (length fs) (λ i. getD fs i 0))
     (λ i h. getD-tabulate (length fs) (λ j. getD fs j 0) i 0 (omega (arith, length-tabulate (length fs) (λ j. getD fs j 0))))
 
+-- extents laid into the slots of a device are its words
+pub laid-words : (d : Device) → laid (extents d) (3 * d .slots) ≡ wordsOf d .extents
+unfolding laid wordsOf
+laid-words d =
+    let e : 3 * d .slots - 3 * length (extents d) ≡ 3 * (d .slots - length (extents d)) = omega arith in
+    ap (λ (k : ℕ). flat (extents d) ++ replicate k 0) e
+
+-- rules 1 and 2 give what the two passes over the slots require
+pub rows-ends : (n hi : ℕ) (ws : List ℕ) (u : ℕ) → hi ≤ none → Rows n 0 none hi (slots ws 0 u) → Ends ws u
+rows-ends n hi ws u h r i t = omega (arith, rows-ranked n hi ws u r .high i t)
+
+pub rows-inside : (n hi : ℕ) (ws : List ℕ) (u : ℕ) → Rows n 0 none hi (slots ws 0 u) → (i : ℕ) → i < u → slot ws i .physical % n + slot ws i .count ≤ n
+rows-inside n hi ws u r i t = rows-ranked n hi ws u r .inside i t
+
 module _ (d : Device) (s : Sound d) where
+  pub block-room : (b : ℕ) → b < blocks d → b * d .pages + d .pages ≤ none
+  block-room b h = omega (arith, block-le (d .pages) b (blocks d) h, s .words)
+
+  length-live : (v : ℕ) (t : ℕ → Bool) → length (livePages (d .pages) v t) ≡ count (d .pages) t
+  unfolding livePages
+  length-live v t = length-below (d .pages) v t (d .pages)
+
   rows : Rows (d .pages) 0 none (lines d) (extents d)
   unfolding extents
   rows = runs-rows (d .pages) (s .some) (d .table) 0 (lines d) (table-small d s) (omega arith)
@@ -150,3 +172,71 @@ module _ (d : Device) (s : Sound d) where
     pub pages-sources : livePages (d .pages) v (covered (extents d) (d .pages) v) ≡ sources v d
     unfolding livePages sources
     pages-sources = pages-same (d .pages) v (covered (extents d) (d .pages) v) (named d v) (λ o h. covered-named v a o h)
+
+    module _ (ranks : List ℕ) (r : Ranks (d .pages) (covered (extents d) (d .pages) v) ranks) where
+      pub rises-sources : livePages (d .pages) v (rises ranks) ≡ sources v d
+      rises-sources =
+          pages-same (d .pages) v (rises ranks) (covered (extents d) (d .pages) v) (rises-live (d .pages) (covered (extents d) (d .pages) v) ranks r) ∙ pages-sources
+
+      -- how many: the rank behind the last offset
+      pub rank-sources : getD ranks (d .pages) 0 ≡ length (sources v d)
+      rank-sources = r .rank (d .pages) (omega arith) ∙ sym (length-live v (covered (extents d) (d .pages) v)) ∙ ap length pages-sources
+
+      pub count-sources : count (d .pages) (rises ranks) ≡ length (sources v d)
+      count-sources = sym (length-live v (rises ranks)) ∙ ap length rises-sources
+
+    -- ---- the labels
+
+    module _ (out out′ : List ℕ) (l : length (sources v d) ≤ length out) (f : out′ ≡ over (sources v d) out) where
+      pub listed-sources : take (length (sources v d)) out′ ≡ sources v d
+      unfolding over
+      listed-sources = ap (take (length (sources v d))) f ∙ take-append-seam (sources v d) (drop (length (sources v d)) out)
+
+      listed-at : (i : ℕ) → i < length (sources v d) → getD out′ i 0 ≡ v * d .pages + nth v d i
+      unfolding over
+      listed-at i h =
+          ap (λ (xs : List ℕ). getD xs i 0) f ∙ List·getD-append (sources v d) (drop (length (sources v d)) out) 0 i h
+          ∙ source-page d s v a e i 0 (omega (arith, length-sources d s v a e))
+
+      pub sources-copied : Copied (d .pages) (d .reserve) v out′ (length (sources v d)) (length (d .spare))
+      sources-copied = record {
+        listed = omega (arith, ap length f, length-over (sources v d) out l);
+        few = few-sources d s v a e;
+        other = e;
+        to = omega (arith, s .whole, block-le (d .pages) (d .reserve) (blocks d) (s .kept));
+        from = omega (arith, s .whole, block-le (d .pages) v (blocks d) a);
+        low = λ i h. omega (arith, listed-at i h);
+        high = λ i h. omega (arith, listed-at i h, source d s v a e i (omega (arith, length-sources d s v a e)) .below);
+      }
+
+      pub moved-labels : moved none (d .pages) (d .reserve) v (take (length (sources v d)) out′) (d .spare) ≡ reclaimedAt v d .spare
+      unfolding reclaimedAt
+      moved-labels = ap (λ (ps : List ℕ). moved none (d .pages) (d .reserve) v ps (d .spare)) listed-sources
+
+    -- ---- the block records
+
+    -- which of three blocks it is
+    block : {C : Type 0} (c : ℕ) → (c ≡ v → C) → (c ≡ d .reserve → C) → ((c ≡ v → ⊥) → (c ≡ d .reserve → ⊥) → C) → C
+    block c x y z = by-cases (ℕ-discrete c v) x (λ f. by-cases (ℕ-discrete c (d .reserve)) y (z f))
+
+    pub emptied-records : (ws : List ℕ) → ws ≡ records (d .fills) 0 (valid d) → emptied (d .reserve) v ws ≡ records (reclaimedAt v d .fills) 0 (valid (reclaimedAt v d))
+    emptied-records ws eq =
+        let d′ = reclaimedAt v d in
+        let r = d .reserve in
+        let new = emptied (d .reserve) v ws in
+        let apart : d .reserve ≡ v → ⊥ = λ g. e (sym g) in
+        let same : blocks (reclaimedAt v d) ≡ blocks d = re-blocks d s v a e in
+        let size : length ws ≡ stride * blocks d = ap length eq ∙ records-length (d .fills) 0 (valid d) in
+        let fills : (c : ℕ) → fillWord ws c ≡ fill d c = λ c. ap (λ (xs : List ℕ). fillWord xs c) eq ∙ records-fill (d .fills) 0 (valid d) c in
+        let valids : (c : ℕ) → c < blocks d → validWord ws c ≡ valid d c = λ c h. ap (λ (xs : List ℕ). validWord xs c) eq ∙ records-valid (d .fills) 0 (valid d) c c h (omega arith) in
+        sym (ap (λ (fs : List ℕ). records fs 0 (valid d′)) (sym (tabulate-same (d′ .fills)))
+        ∙ words-records (blocks d′) new 0 (fill d′) (valid d′) (emptied-length r v ws ∙ size ∙ ap (λ (k : ℕ). stride * k) (sym same))
+        (λ c h. block c
+        (λ q. ap (fill d′) q ∙ re-fill-victim d s v a e ∙ sym (ap (fillWord new) q ∙ victim-fill r v ws (omega arith)))
+        (λ q. ap (fill d′) q ∙ re-fill-reserve d s v a e ∙ sym (ap (fillWord new) q ∙ reserve-fill r v ws (omega (arith, s .kept)) apart ∙ valids v a))
+        (λ f g. re-fill d s v a e c f g ∙ sym (rest-fill r v ws c f g ∙ fills c)))
+        (λ c j h k. let at : j ≡ c = omega arith in
+        ap (valid d′) at ∙ block c
+        (λ q. ap (valid d′) q ∙ re-valid-victim d s v a e ∙ sym (ap (validWord new) q ∙ victim-valid r v ws (omega arith)))
+        (λ q. ap (valid d′) q ∙ re-valid-reserve d s v a e ∙ sym (ap (validWord new) q ∙ reserve-valid r v ws (omega (arith, s .kept)) apart ∙ valids v a))
+        (λ f g. re-valid d s v a e c (omega arith) f g ∙ sym (rest-valid r v ws c f g ∙ valids c (omega arith)))))
