@@ -1,0 +1,278 @@
+-- Slots stored one by one: each renamed in its place, or pushed behind the slots that stand already and joined with the last of them.
+use Prim.Native.Nat.{ℕ, zero, suc, _+_, _*_, _-_, _<_, _≤_}
+use mathlib.Core.Bool.{Bool, true, false, _&&_, false≢true}
+use mathlib.Core.Path.{_≡_, refl, sym, ap, ap₂, _∙_, subst}
+use mathlib.Core.List.{List, [], _∷_, _++_, map, map-append, append-assoc}
+use mathlib.Core.Logic.{by-cases}
+use native.Mathlib.Omega.{arith}
+use native.Mathlib.Decide.{decLt}
+use native.Mathlib.Numerals.{add-one}
+use borrow.Author.Tests.{lt-ltb, le-ltb, ltb-true}
+use borrow.Rule.Slice.PartMut.{midOf, putMid}
+use lib.Dec.{ltb}
+use lib.ListN.{length, getD, set, take, drop, replicate, length-map, length-drop, length-set}
+use lib.Seq.{getD-set-same, getD-set-other}
+use Rattle.rules.specs.Counting.{one, count}
+use Rattle.rules.specs.Extents.{none, extent, end, joinable, join, slot, slots, flat}
+use Rattle.rules.specs.declared.Extent.{Extent}
+use Rattle.laws.specs.Bools.{and-split, cases}
+use Rattle.laws.specs.Sums.{count-same}
+use Rattle.laws.specs.Cells.{map-at}
+use Rattle.laws.specs.Slots.{slots-length, slots-at, slots-more, flat-slots}
+use Rattle.laws.specs.Unique.{extent-path}
+use Rattle.laws.specs.Runs.{joinable-true, join-joined, join-apart}
+use Rattle.laws.specs.Norm.{norm, move, movesTo}
+use Rattle.words.specs.Parts.{mid-tail, put-tail}
+use Rattle.reclaiming.specs.Covered.{covered}
+use Rattle.reclaiming.specs.Ranks.{Ranks}
+use Rattle.reclaiming.specs.Remapped.{remapped, laid, place, places-moved, norm-count, push, norm-push, push-last}
+
+-- each of u slots ends at or below the greatest word
+abbrev pub Ends : List ℕ → ℕ → Type 0
+Ends ws u = (i : ℕ) → i < u → end (slot ws i) ≤ none
+
+-- an extent stored into slot i
+abbrev pub put : List ℕ → ℕ → Extent → List ℕ
+put ws i e = set (set (set ws (3 * i) (e .logical)) (3 * i + 1) (e .physical)) (3 * i + 2) (e .count)
+
+pub slot-same : (ws ws′ : List ℕ) (i : ℕ) → ((k : ℕ) → 3 * i ≤ k → k < 3 * i + 3 → getD ws k 0 ≡ getD ws′ k 0) → slot ws i ≡ slot ws′ i
+slot-same ws ws′ i h =
+    extent-path (slot ws i) (slot ws′ i) (h (3 * i) (omega arith) (omega arith)) (h (3 * i + 1) (omega arith) (omega arith)) (h (3 * i + 2) (omega arith) (omega arith))
+
+pub slots-same : (ws ws′ : List ℕ) (i u : ℕ) → ((k : ℕ) → 3 * i ≤ k → k < 3 * (i + u) → getD ws k 0 ≡ getD ws′ k 0) → slots ws i u ≡ slots ws′ i u
+unfolding slots
+slots-same ws ws′ i zero h = refl
+slots-same ws ws′ i (suc u) h =
+    ap₂ (λ (e : Extent) (es : List Extent). e ∷ es)
+    (slot-same ws ws′ i (λ k a b. h k a (omega arith)))
+    (slots-same ws ws′ (i + 1) u (λ k a b. h k (omega arith) (omega arith)))
+
+-- ---- how many extents once each slot's page has moved
+
+pub slots-move : (ws : List ℕ) (u : ℕ) (g : ℕ → ℕ) (i : ℕ) (z : Extent) → i < u → getD (map (move g) (slots ws 0 u)) i z ≡ move g (slot ws i)
+slots-move ws u g i z h =
+    map-at z (move g) (slots ws 0 u) i z (omega (arith, slots-length ws 0 u)) ∙ ap (move g) (slots-at ws 0 u i i z h (omega arith))
+
+-- slot j is joinable with the next once their pages have moved
+abbrev pub joinsAfter : ℕ → List ℕ → ℕ → ℕ → List ℕ → ℕ → Bool
+joinsAfter n ranks v r ws j = joinable n (move (place n ranks v r) (slot ws j)) (move (place n ranks v r) (slot ws (j + 1)))
+
+pub count-start : (t : ℕ → Bool) → count 0 t ≡ 0
+unfolding count
+count-start t = refl
+
+pub count-next : (t : ℕ → Bool) (i : ℕ) (b : Bool) → b ≡ t i → count (i + 1) t ≡ count i t + one b
+unfolding count
+count-next t i b e = rw (add-one i, e)
+
+joined-count : (ws : List ℕ) (u n : ℕ) (g : ℕ → ℕ) (k i : ℕ) → i ≡ u - 1
+    → k + count i (λ j. joinable n (move g (slot ws j)) (move g (slot ws (j + 1)))) ≡ u
+    → k ≡ length (norm n (map (move g) (slots ws 0 u)))
+joined-count ws u n g k i e h =
+    let z = extent 0 0 0 in
+    let es = map (move g) (slots ws 0 u) in
+    let l : length (map (move g) (slots ws 0 u)) ≡ u = length-map (slots ws 0 u) (move g) ∙ slots-length ws 0 u in
+    omega (
+      arith,
+      norm-count n z es i (omega arith),
+      count-same i (λ j. joinable n (getD es j z) (getD es (suc j) z)) (λ j. joinable n (move g (slot ws j)) (move g (slot ws (j + 1))))
+          (λ j s. let next : suc j ≡ j + 1 = omega arith in
+          ap₂ (joinable n) (slots-move ws u g j z (omega arith)) (slots-move ws u g (suc j) z (omega arith) ∙ ap (λ (x : ℕ). move g (slot ws x)) next)),
+    )
+
+pub remapped-count : (ws : List ℕ) (u n : ℕ) (ranks : List ℕ) (v r k i : ℕ) → 0 < n → Ranks n (covered (slots ws 0 u) n v) ranks → i ≡ u - 1
+    → k + count i (joinsAfter n ranks v r ws) ≡ u
+    → k ≡ length (remapped n v r (slots ws 0 u))
+unfolding remapped
+remapped-count ws u n ranks v r k i z h e c =
+    joined-count ws u n (place n ranks v r) k i e c
+    ∙ ap (λ (es : List Extent). length (norm n es)) (places-moved n ranks v r (covered (slots ws 0 u) n v) (slots ws 0 u) z h)
+
+-- ---- each slot's page moved, in its place
+
+pub record Renamed (g : ℕ → ℕ) (ws : List ℕ) (i : ℕ) (ws′ : List ℕ) : Type 0 where
+  pub done : slots ws′ 0 i ≡ map (move g) (slots ws 0 i)
+  pub rest : (k : ℕ) → 3 * i ≤ k → getD ws′ k 0 ≡ getD ws k 0
+
+pub renamed-start : (g : ℕ → ℕ) (ws : List ℕ) → Renamed g ws 0 ws
+unfolding slots
+renamed-start g ws = record { done = refl; rest = λ k h. refl }
+
+pub renamed-step : (g : ℕ → ℕ) (ws ws′ : List ℕ) (i x : ℕ) → 3 * i + 2 < length ws′ → Renamed g ws i ws′ → x ≡ g (getD ws′ (3 * i + 1) 0)
+    → Renamed g ws (i + 1) (set ws′ (3 * i + 1) x)
+renamed-step g ws ws′ i x l h e =
+    let ws″ = set ws′ (3 * i + 1) x in
+    let other : (k : ℕ) → (k ≡ 3 * i + 1 → ⊥) → getD ws″ k 0 ≡ getD ws′ k 0 = λ k f. getD-set-other ws′ (3 * i + 1) k x 0 f in
+    record {
+      done = slots-more ws″ 0 i i (omega arith)
+          ∙ ap₂ (λ (es : List Extent) (y : Extent). es ++ y ∷ [])
+          (slots-same ws″ ws′ 0 i (λ k a b. other k (omega arith)) ∙ h .done)
+          (extent-path (slot ws″ i) (move g (slot ws i))
+          (other (3 * i) (omega arith) ∙ h .rest (3 * i) (omega arith))
+          (getD-set-same ws′ (3 * i + 1) x 0 (omega arith) ∙ e ∙ ap g (h .rest (3 * i + 1) (omega arith)))
+          (other (3 * i + 2) (omega arith) ∙ h .rest (3 * i + 2) (omega arith)))
+          ∙ sym (ap (map (move g)) (slots-more ws 0 i i (omega arith)) ∙ map-append (move g) (slots ws 0 i) (slot ws i ∷ []));
+      rest = λ k a. other k (omega arith) ∙ h .rest k (omega arith);
+    }
+
+-- the ends stay
+pub renamed-ends : (g : ℕ → ℕ) (ws ws′ : List ℕ) (u : ℕ) → slots ws′ 0 u ≡ map (move g) (slots ws 0 u) → Ends ws u → Ends ws′ u
+renamed-ends g ws ws′ u h e i s =
+    let z = extent 0 0 0 in
+    let at : slot ws′ i ≡ move g (slot ws i) =
+    sym (slots-at ws′ 0 u i i z s (omega arith)) ∙ ap (λ (es : List Extent). getD es i z) h ∙ slots-move ws u g i z s in
+    omega (arith, ap end at, e i s)
+
+-- ---- slots pushed from the left
+
+-- slot i pushed behind the first w slots: k slots stand then
+pub record Pushed (n : ℕ) (ws : List ℕ) (w i : ℕ) (ws′ : List ℕ) (k : ℕ) : Type 0 where
+  pub done : slots ws′ 0 k ≡ push n (slots ws 0 w) (slot ws i)
+  pub rest : (j : ℕ) → 3 * (i + 1) ≤ j → getD ws′ j 0 ≡ getD ws j 0
+  pub few : k ≤ i + 1
+
+-- slot x is joinable with the last of the first w slots
+unfoldable pub joinsLast : ℕ → List ℕ → ℕ → Extent → Bool
+joinsLast n ws w x = ltb 0 w && joinable n (slot ws (w - 1)) x
+
+pub joins-none : (n : ℕ) (ws : List ℕ) (w : ℕ) (x : Extent) → w ≡ 0 → false ≡ joinsLast n ws w x
+unfolding joinsLast
+joins-none n ws w x e = rw (le-ltb 0 w (omega arith))
+
+pub joins-some : (n : ℕ) (ws : List ℕ) (w : ℕ) (x : Extent) → 0 < w → joinsLast n ws w x ≡ joinable n (slot ws (w - 1)) x
+unfolding joinsLast
+joins-some n ws w x e = rw (lt-ltb 0 w e)
+
+pub record Last (n : ℕ) (ws : List ℕ) (w : ℕ) (x : Extent) : Type 0 where
+  pub some : 0 < w
+  pub meets : joinable n (slot ws (w - 1)) x ≡ true
+  -- where it ends the other begins
+  pub logical : slot ws (w - 1) .logical + slot ws (w - 1) .count ≡ x .logical
+
+pub joins-last : (n : ℕ) (ws : List ℕ) (w : ℕ) (x : Extent) → joinsLast n ws w x ≡ true → Last n ws w x
+unfolding joinsLast
+joins-last n ws w x e =
+    let s = and-split (ltb 0 w) (joinable n (slot ws (w - 1)) x) e in
+    record { some = ltb-true 0 w (s .0); meets = s .1; logical = sym (joinable-true n (slot ws (w - 1)) x (s .1) .logical) }
+
+joined : (n : ℕ) (ws : List ℕ) (w i : ℕ) → w ≤ i → 3 * i + 2 < length ws → joinsLast n ws w (slot ws i) ≡ true
+    → Pushed n ws w i (set ws (3 * (w - 1) + 2) (getD ws (3 * (w - 1) + 2) 0 + slot ws i .count)) w
+joined n ws w i h l t =
+    let last = joins-last n ws w (slot ws i) t in
+    let j = w - 1 in
+    let a = slot ws j in
+    let x = slot ws i in
+    let ws′ = set ws (3 * j + 2) (a .count + x .count) in
+    let back : w ≡ j + 1 = omega (arith, last .some) in
+    let other : (k : ℕ) → (k ≡ 3 * j + 2 → ⊥) → getD ws′ k 0 ≡ getD ws k 0 = λ k f. getD-set-other ws (3 * j + 2) k (a .count + x .count) 0 f in
+    record {
+      done = ap (slots ws′ 0) back ∙ slots-more ws′ 0 j j (omega arith)
+          ∙ ap₂ (λ (es : List Extent) (y : Extent). es ++ y ∷ [])
+          (slots-same ws′ ws 0 j (λ k p q. other k (omega arith)))
+          (extent-path (slot ws′ j) (extent (a .logical) (a .physical) (a .count + x .count))
+          (other (3 * j) (omega arith)) (other (3 * j + 1) (omega arith)) (getD-set-same ws (3 * j + 2) (a .count + x .count) 0 (omega (arith, last .some))))
+          ∙ sym (ap (λ (es : List Extent). push n es x) (ap (slots ws 0) back ∙ slots-more ws 0 j j (omega arith)) ∙ push-last n (slots ws 0 j) a x
+          ∙ ap (λ (es : List Extent). slots ws 0 j ++ es) (join-joined n a x [] (last .meets)));
+      rest = λ k p. other k (omega (arith, last .some));
+      few = omega arith;
+    }
+
+pub pushed-joined : (n : ℕ) (ws : List ℕ) (w i : ℕ) (x : Extent) → w ≤ i → 3 * i + 2 < length ws → x ≡ slot ws i → joinsLast n ws w (slot ws i) ≡ true
+    → Pushed n ws w i (set ws (3 * (w - 1) + 2) (getD ws (3 * (w - 1) + 2) 0 + x .count)) w
+pushed-joined n ws w i x h l e t =
+    subst (λ (y : Extent). Pushed n ws w i (set ws (3 * (w - 1) + 2) (getD ws (3 * (w - 1) + 2) 0 + y .count)) w) (sym e) (joined n ws w i h l t)
+
+put-other : (ws : List ℕ) (i : ℕ) (e : Extent) (k : ℕ) → (3 * i ≤ k → k < 3 * i + 3 → ⊥) → getD (put ws i e) k 0 ≡ getD ws k 0
+put-other ws i e k f =
+    getD-set-other (set (set ws (3 * i) (e .logical)) (3 * i + 1) (e .physical)) (3 * i + 2) k (e .count) 0 (λ g. f (omega arith) (omega arith))
+    ∙ getD-set-other (set ws (3 * i) (e .logical)) (3 * i + 1) k (e .physical) 0 (λ g. f (omega arith) (omega arith))
+    ∙ getD-set-other ws (3 * i) k (e .logical) 0 (λ g. f (omega arith) (omega arith))
+
+put-slot : (ws : List ℕ) (i : ℕ) (e : Extent) → 3 * i + 2 < length ws → slot (put ws i e) i ≡ e
+put-slot ws i e l =
+    let one = set ws (3 * i) (e .logical) in
+    let two = set one (3 * i + 1) (e .physical) in
+    let a = length-set ws (3 * i) (e .logical) in
+    let b = length-set one (3 * i + 1) (e .physical) in
+    extent-path (slot (put ws i e) i) e
+    (getD-set-other two (3 * i + 2) (3 * i) (e .count) 0 (λ g. omega arith)
+    ∙ getD-set-other one (3 * i + 1) (3 * i) (e .physical) 0 (λ g. omega arith) ∙ getD-set-same ws (3 * i) (e .logical) 0 (omega arith))
+    (getD-set-other two (3 * i + 2) (3 * i + 1) (e .count) 0 (λ g. omega arith) ∙ getD-set-same one (3 * i + 1) (e .physical) 0 (omega arith))
+    (getD-set-same two (3 * i + 2) (e .count) 0 (omega arith))
+
+-- behind no slot, or behind one that it is not joinable with
+push-apart : (n : ℕ) (ws : List ℕ) (w : ℕ) (x : Extent) → joinsLast n ws w x ≡ false → push n (slots ws 0 w) x ≡ slots ws 0 w ++ x ∷ []
+unfolding slots push
+push-apart n ws zero x t = refl
+push-apart n ws (suc j) x t =
+    let e : joinable n (slot ws (suc j - 1)) x ≡ false = sym (joins-some n ws (suc j) x (omega arith)) ∙ t in
+    let at : suc j - 1 ≡ j = omega arith in
+    let e′ : joinable n (slot ws j) x ≡ false = sym (ap (λ (k : ℕ). joinable n (slot ws k) x) at) ∙ e in
+    let next : suc j ≡ j + 1 = omega arith in
+    let more : slots ws 0 (suc j) ≡ slots ws 0 j ++ slot ws j ∷ [] = ap (slots ws 0) next ∙ slots-more ws 0 j j (omega arith) in
+    ap (λ (es : List Extent). push n es x) more ∙ push-last n (slots ws 0 j) (slot ws j) x
+    ∙ ap (λ (es : List Extent). slots ws 0 j ++ es) (join-apart n (slot ws j) x [] e′)
+    ∙ sym (ap (λ (es : List Extent). es ++ x ∷ []) more ∙ append-assoc (slots ws 0 j) (slot ws j ∷ []) (x ∷ []))
+
+apart : (n : ℕ) (ws : List ℕ) (w i : ℕ) → w ≤ i → 3 * i + 2 < length ws → joinsLast n ws w (slot ws i) ≡ false
+    → Pushed n ws w i (put ws w (slot ws i)) (w + 1)
+apart n ws w i h l t =
+    let x = slot ws i in
+    let ws′ = put ws w x in
+    record {
+      done = slots-more ws′ 0 w w (omega arith)
+          ∙ ap₂ (λ (es : List Extent) (y : Extent). es ++ y ∷ []) (slots-same ws′ ws 0 w (λ k p q. put-other ws w x k (λ a b. omega arith))) (put-slot ws w x (omega arith))
+          ∙ sym (push-apart n ws w x t);
+      rest = λ k p. put-other ws w x k (λ a b. omega arith);
+      few = omega arith;
+    }
+
+pub pushed-apart : (n : ℕ) (ws ws′ : List ℕ) (w i : ℕ) (x : Extent) → w ≤ i → 3 * i + 2 < length ws → x ≡ slot ws i → joinsLast n ws w (slot ws i) ≡ false
+    → ws′ ≡ put ws w x → Pushed n ws w i ws′ (w + 1)
+pushed-apart n ws ws′ w i x h l e t p =
+    subst (λ (zs : List ℕ). Pushed n ws w i zs (w + 1)) (sym (p ∙ ap (put ws w) e)) (apart n ws w i h l t)
+
+-- after i slots: w stand, joined, and the others are as they were
+pub record Packed (n : ℕ) (ws : List ℕ) (i : ℕ) (ws′ : List ℕ) (w : ℕ) : Type 0 where
+  pub done : slots ws′ 0 w ≡ norm n (slots ws 0 i)
+  pub rest : (k : ℕ) → 3 * i ≤ k → getD ws′ k 0 ≡ getD ws k 0
+  pub few : w ≤ i
+
+pub packed-start : (n : ℕ) (ws : List ℕ) → Packed n ws 0 ws 0
+unfolding slots norm
+packed-start n ws = record { done = refl; rest = λ k h. refl; few = omega arith }
+
+pub packed-slot : (n : ℕ) (ws ws′ : List ℕ) (i w : ℕ) → Packed n ws i ws′ w → slot ws′ i ≡ slot ws i
+packed-slot n ws ws′ i w h = slot-same ws′ ws i (λ k a b. h .rest k a)
+
+pub packed-step : (n : ℕ) (ws ws′ ws″ : List ℕ) (i w k : ℕ) → Packed n ws i ws′ w → Pushed n ws′ w i ws″ k → Packed n ws (i + 1) ws″ k
+packed-step n ws ws′ ws″ i w k h p = record {
+  done = p .done ∙ ap₂ (push n) (h .done) (packed-slot n ws ws′ i w h)
+      ∙ sym (ap (norm n) (slots-more ws 0 i i (omega arith)) ∙ norm-push n (slots ws 0 i) (slot ws i));
+  rest = λ j a. p .rest j a ∙ h .rest j (omega arith);
+  few = p .few;
+}
+
+pub packed-length : (n : ℕ) (ws ws′ : List ℕ) (i w : ℕ) → Packed n ws i ws′ w → w ≡ length (norm n (slots ws 0 i))
+packed-length n ws ws′ i w h = sym (slots-length ws′ 0 w) ∙ ap length (h .done)
+
+-- and zeros behind them
+pub packed-end : (n : ℕ) (ws ws′ ys : List ℕ) (i w : ℕ) → 3 * i ≤ length ws → length ws′ ≡ length ws → Packed n ws i ws′ w
+    → ys ≡ replicate (length (midOf (3 * w) (length ws′ - 3 * w) ws′)) 0
+    → putMid (3 * w) (length ws′ - 3 * w) ws′ ys ≡ laid (norm n (slots ws 0 i)) (length ws)
+unfolding laid
+packed-end n ws ws′ ys i w l m h e =
+    let few = h .few in
+    let size : length (midOf (3 * w) (length ws′ - 3 * w) ws′) ≡ length ws - 3 * length (norm n (slots ws 0 i)) =
+    ap length (mid-tail (3 * w) ws′) ∙ length-drop (3 * w) ws′ ∙ omega (arith, packed-length n ws ws′ i w h) in
+    put-tail (3 * w) ws′ ys
+    ∙ ap₂ (λ (a b : List ℕ). a ++ b)
+    (sym (flat-slots ws′ w (omega arith)) ∙ ap flat (h .done))
+    (e ∙ ap (λ (k : ℕ). replicate k 0) size)
+
+-- ---- both passes
+
+pub moved-map : (ws ws′ : List ℕ) (u n : ℕ) (ranks : List ℕ) (v r : ℕ) → 0 < n → Ranks n (covered (slots ws 0 u) n v) ranks
+    → slots ws′ 0 u ≡ map (move (place n ranks v r)) (slots ws 0 u) → norm n (slots ws′ 0 u) ≡ remapped n v r (slots ws 0 u)
+unfolding remapped
+moved-map ws ws′ u n ranks v r z h e = ap (norm n) (e ∙ places-moved n ranks v r (covered (slots ws 0 u) n v) (slots ws 0 u) z h)

@@ -1,0 +1,25 @@
+-- The stale pages of a block by its record, and the search for the block that has most.
+use Prim.Native.Nat.{ℕ, zero, suc, _+_, _-_, _<_, _≤_}
+use mathlib.Core.Path.{_≡_, refl, sym, ap, _∙_}
+use mathlib.Core.List.{List}
+use native.Mathlib.Numerals.{add-one}
+use borrow.Author.Tests.{lt-ltb, le-ltb}
+use Rattle.rules.specs.Counting.{most}
+use Rattle.rules.specs.Blocks.{fillWord, validWord}
+
+-- what stands below the fill and is not valid
+abbrev pub staleWord : List ℕ → ℕ → ℕ
+staleWord ws b = fillWord ws b - validWord ws b
+
+pub most-none : (f : ℕ → ℕ) → 0 ≡ most 0 f
+unfolding most
+most-none f = refl
+
+-- a number with more than any before it, and one with no more
+pub most-more : (n : ℕ) (f : ℕ → ℕ) (r : ℕ) → r ≡ most n f → f r < f n → n ≡ most (n + 1) f
+unfolding most
+most-more n f r e h = rw (add-one n, ← e, lt-ltb (f r) (f n) h)
+
+pub most-stays : (n : ℕ) (f : ℕ → ℕ) (r : ℕ) → r ≡ most n f → f n ≤ f r → r ≡ most (n + 1) f
+unfolding most
+most-stays n f r e h = rw (add-one n, ← e, le-ltb (f r) (f n) h)
