@@ -1,20 +1,17 @@
 -- Which pages of a block the extents hold.
-use Prim.Native.Nat.{ℕ, zero, suc, _+_, _*_, _-_, _/_, _%_, _<_, _≤_}
-use mathlib.Core.Bool.{Bool, true, false, cond, _&&_, _||_, false≢true}
+use Prim.Native.Nat.{ℕ, _+_, _*_, _-_, _/_, _%_, _<_, _≤_}
+use mathlib.Core.Bool.{Bool, true, false, _&&_, _||_}
 use mathlib.Core.Path.{_≡_, refl, sym, ap, _∙_}
 use mathlib.Core.List.{List, [], _∷_, _++_}
 use mathlib.Core.Logic.{by-cases}
 use native.Mathlib.Omega.{arith}
-use native.Mathlib.Decide.{decLt, ℕ-discrete}
-use native.Mathlib.Nat.{div-add-mod'}
+use native.Mathlib.Decide.{decLt}
 use lib.Arith.{digits-div}
 use lib.Dec.{leb, ltb}
 use borrow.Author.Tests.{le-leb, lt-leb, lt-ltb, le-ltb, leb-true, ltb-true}
-use Rattle.rules.specs.Extents.{none, lookup}
-use Rattle.rules.specs.Device.{Device, blocks, at, named, extents}
 use Rattle.rules.specs.declared.Extent.{Extent}
-use Rattle.laws.specs.Bools.{cases, and-split, and-join, same-test}
-use Rattle.laws.specs.Rows.{Row, Rows, lookup-before, lookup-in, lookup-after, lookup-low, div-shift}
+use Rattle.laws.specs.Bools.{cases, and-split, and-join}
+use Rattle.laws.specs.Rows.{div-shift}
 
 -- page p is one of the extent's
 unfoldable pub holds : Extent → ℕ → Bool

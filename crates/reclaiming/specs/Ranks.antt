@@ -1,26 +1,26 @@
 -- The rank of an offset: how many live offsets of the victim lie before it. Marks of one word an offset, and the sums of the marks before each.
 use Prim.Native.Nat.{ℕ, zero, suc, _+_, _*_, _-_, _/_, _%_, _<_, _≤_}
 use mathlib.Core.Bool.{Bool, true, false, cond, _||_, or-false}
-use mathlib.Core.Path.{_≡_, refl, sym, ap, _∙_, subst}
-use mathlib.Core.List.{List, [], _∷_, _++_, append-assoc}
+use mathlib.Core.Path.{_≡_, refl, sym, ap, _∙_}
+use mathlib.Core.List.{List, [], _∷_}
 use mathlib.Core.Logic.{by-cases}
 use native.Mathlib.Omega.{arith}
 use native.Mathlib.Decide.{decLt, ℕ-discrete}
 use native.Mathlib.Nat.{div-add-mod'}
 use native.Mathlib.Numerals.{add-one}
 use borrow.Author.Tests.{eq-eqb, ne-eqb, lt-ltb, le-ltb}
-use borrow.Rule.Slice.PartMut.{midOf, putMid, mid-len}
+use borrow.Rule.Slice.PartMut.{midOf, putMid}
 use lib.Dec.{eqb, ltb}
-use lib.ListN.{length, getD, set, take, drop, replicate, length-replicate, getD-replicate}
-use lib.Seq.{sets, sets-eq, length-sets, drop-drop}
-use Rattle.rules.specs.Counting.{one, sum, count, picks}
+use lib.ListN.{length, getD, set, replicate, length-replicate, getD-replicate}
+use lib.Seq.{sets, length-sets}
+use Rattle.rules.specs.Counting.{one, sum, count}
 use Rattle.rules.specs.Extents.{none, slot, slots}
 use Rattle.rules.specs.declared.Extent.{Extent}
 use Rattle.laws.specs.Bools.{cases}
 use Rattle.laws.specs.Sums.{count-sum, sum-same, count-le, count-same, count-rise}
 use Rattle.laws.specs.Cells.{sets-in, sets-other}
 use Rattle.laws.specs.Slots.{slots-more}
-use Rattle.words.specs.Store.{stored, stored-start, stored-next, stored-read, stored-length}
+use Rattle.words.specs.Store.{stored, stored-next, stored-read, stored-length}
 use Rattle.reclaiming.specs.Part.{part-filled}
 use Rattle.reclaiming.specs.Covered.{holds, covered, holds-true, holds-low, holds-high, holds-block, covered-more}
 
@@ -65,12 +65,6 @@ module _ (e : Extent) (n v : ℕ) (ms : List ℕ) where
   pub marked-else : (e .physical / n ≡ v → ⊥) → marked e n v ms ≡ ms
   unfolding marked
   marked-else h = rw (ne-eqb (e .physical / n) v h)
-
-  pub length-marked : length (marked e n v ms) ≡ length ms
-  length-marked =
-      by-cases (ℕ-discrete (e .physical / n) v)
-      (λ h. ap length (marked-here h) ∙ length-sets ms (e .physical % n) (ones (e .count)))
-      (λ h. ap length (marked-else h))
 
   -- a mark is put where the extent holds the page
   pub marked-at : e .physical % n + e .count ≤ n → n ≤ length ms → (o : ℕ) → o < n → (b : Bool) → getD ms o 0 ≡ one b

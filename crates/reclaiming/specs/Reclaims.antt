@@ -1,42 +1,41 @@
 -- The parts of a reclaim on a device's words: the victim, the sources, and the words of the device that `reclaimedAt` leaves.
 use Prim.Native.Nat.{ℕ, zero, suc, _+_, _-_, _*_, _/_, _%_, _<_, _≤_}
-use mathlib.Core.Bool.{Bool, true, false, cond, false≢true}
-use mathlib.Core.Path.{_≡_, refl, sym, ap, ap₂, _∙_, subst}
-use mathlib.Core.List.{List, [], _∷_, _++_, map}
+use mathlib.Core.Bool.{Bool, true, cond, false≢true}
+use mathlib.Core.Path.{_≡_, refl, sym, ap, ap₂, _∙_}
+use mathlib.Core.List.{List, [], _∷_, _++_}
 use mathlib.Core.Logic.{by-cases}
 use native.Mathlib.Omega.{arith}
 use native.Mathlib.Decide.{decLt, ℕ-discrete}
 use native.Mathlib.Nat.{mod-lt}
 use lib.Dec.{ltb}
-use lib.ListN.{length, getD, set, take, drop, replicate, length-append, length-drop, List·getD-append}
-use lib.Seq.{ext-getD, take-append-seam, take-append-le, take-length}
-use Rattle.rules.specs.Counting.{count, most, picks, tabulate}
+use lib.ListN.{length, getD, take, drop, replicate, List·getD-append}
+use lib.Seq.{ext-getD, take-append-seam}
+use Rattle.rules.specs.Counting.{count, most, tabulate}
 use Rattle.rules.specs.Extents.{none, extent, end, lookup, slot, slots, flat}
 use Rattle.rules.specs.Blocks.{stride, fillWord, validWord, records}
 use Rattle.rules.specs.Calls.{over}
 use Rattle.rules.specs.Device.{Device, blocks, lines, at, fill, named, valid, staleIn, extents, wordsOf}
-use Rattle.rules.specs.Lent.{Lent}
 use Rattle.rules.specs.Reclaim.{victim, sources, goes, moved, reclaimedAt}
 use Rattle.rules.specs.declared.Extent.{Extent}
 use Rattle.laws.specs.Bools.{cases, same-test}
 use Rattle.laws.specs.Sums.{count-same}
-use Rattle.laws.specs.Picks.{most-lt, Picked}
+use Rattle.laws.specs.Picks.{most-lt}
 use Rattle.laws.specs.Cells.{block-le, map-same, length-tabulate, getD-tabulate}
-use Rattle.laws.specs.Rows.{Rows, lookup-before, lookup-in, lookup-after, lookup-low}
+use Rattle.laws.specs.Rows.{Rows, lookup-before, lookup-in, lookup-after}
 use Rattle.laws.specs.Unique.{extent-path}
 use Rattle.laws.specs.Runs.{runs-rows, runs-lookup}
 use Rattle.laws.specs.Norm.{norm, move, movesTo, goes-moves, movesTo-here, movesTo-else}
 use Rattle.laws.specs.Device.{Sound, page-lt}
-use Rattle.laws.specs.Live.{Stands, stands, among-at, named-by}
-use Rattle.laws.specs.Balance.{valid-stale, valid-le}
+use Rattle.laws.specs.Live.{stands, among-at}
+use Rattle.laws.specs.Balance.{valid-stale}
 use Rattle.laws.specs.Reclaimed.{re-blocks, re-fill-victim, re-fill-reserve, re-fill, length-sources, few-sources, source, source-page, nth}
 use Rattle.laws.specs.Valid.{re-valid-victim, re-valid-reserve, re-valid}
-use Rattle.laws.specs.Ranked.{Ranked, rows-ranked}
+use Rattle.laws.specs.Ranked.{rows-ranked}
 use Rattle.laws.specs.Records.{records-length, records-fill, records-valid, words-records}
 use Rattle.laws.specs.Encoded.{table-small, reclaim-extents}
 use Rattle.reclaiming.specs.Stale.{staleWord}
 use Rattle.reclaiming.specs.Covered.{holds, covered, holds-true, true-holds}
-use Rattle.reclaiming.specs.Ranks.{Ranks, rises, rises-live, ranks-rise}
+use Rattle.reclaiming.specs.Ranks.{Ranks, rises, rises-live}
 use Rattle.reclaiming.specs.Remapped.{remapped, laid}
 use Rattle.reclaiming.specs.Sources.{livePages, pages-same, length-below, length-over}
 use Rattle.reclaiming.specs.Slot.{Ends}

@@ -1,25 +1,23 @@
 -- The map after a reclaim: each extent moved whole, and joined wherever rule 2 asks. How many there are then, and the joining from the left.
-use Prim.Native.Nat.{ℕ, zero, suc, _+_, _*_, _-_, _/_, _%_, _<_, _≤_}
+use Prim.Native.Nat.{ℕ, zero, suc, _+_, _*_, _-_, _/_, _%_, _<_}
 use mathlib.Core.Bool.{Bool, true, false, cond}
-use mathlib.Core.Path.{_≡_, refl, sym, ap, ap₂, _∙_, subst}
+use mathlib.Core.Path.{_≡_, refl, sym, ap, _∙_}
 use mathlib.Core.List.{List, [], _∷_, _++_, map}
 use mathlib.Core.Logic.{by-cases}
 use native.Mathlib.Omega.{arith}
 use native.Mathlib.Decide.{ℕ-discrete}
 use native.Mathlib.Nat.{mod-lt}
-use native.Mathlib.Numerals.{add-one}
 use borrow.Author.Tests.{eq-eqb, ne-eqb}
 use lib.Dec.{eqb}
-use lib.ListN.{length, getD, replicate, length-map}
+use lib.ListN.{length, getD, replicate}
 use Rattle.rules.specs.Counting.{one, count}
-use Rattle.rules.specs.Extents.{none, extent, joinable, join, slot, slots, flat}
+use Rattle.rules.specs.Extents.{extent, joinable, join, flat}
 use Rattle.rules.specs.declared.Extent.{Extent}
 use Rattle.laws.specs.Bools.{cases, never, same-test}
-use Rattle.laws.specs.Sums.{count-first, count-same, count-le}
-use Rattle.laws.specs.Cells.{map-at, map-same}
-use Rattle.laws.specs.Slots.{slots-length, slots-at}
+use Rattle.laws.specs.Sums.{count-first}
+use Rattle.laws.specs.Cells.{map-same}
 use Rattle.laws.specs.Unique.{extent-path}
-use Rattle.laws.specs.Runs.{Joined, joinable-true, joined-true, join-joined, join-apart}
+use Rattle.laws.specs.Runs.{joinable-true, joined-true, join-joined, join-apart}
 use Rattle.laws.specs.Norm.{norm, move, movesTo, movesTo-here, movesTo-else}
 use Rattle.reclaiming.specs.Covered.{covered}
 use Rattle.reclaiming.specs.Ranks.{Ranks}

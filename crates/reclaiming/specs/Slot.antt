@@ -1,27 +1,25 @@
 -- Slots stored one by one: each renamed in its place, or pushed behind the slots that stand already and joined with the last of them.
 use Prim.Native.Nat.{ℕ, zero, suc, _+_, _*_, _-_, _<_, _≤_}
-use mathlib.Core.Bool.{Bool, true, false, _&&_, false≢true}
+use mathlib.Core.Bool.{Bool, true, false, _&&_}
 use mathlib.Core.Path.{_≡_, refl, sym, ap, ap₂, _∙_, subst}
 use mathlib.Core.List.{List, [], _∷_, _++_, map, map-append, append-assoc}
-use mathlib.Core.Logic.{by-cases}
 use native.Mathlib.Omega.{arith}
-use native.Mathlib.Decide.{decLt}
 use native.Mathlib.Numerals.{add-one}
 use borrow.Author.Tests.{lt-ltb, le-ltb, ltb-true}
 use borrow.Rule.Slice.PartMut.{midOf, putMid}
 use lib.Dec.{ltb}
-use lib.ListN.{length, getD, set, take, drop, replicate, length-map, length-drop, length-set}
+use lib.ListN.{length, getD, set, replicate, length-map, length-drop, length-set}
 use lib.Seq.{getD-set-same, getD-set-other}
 use Rattle.rules.specs.Counting.{one, count}
-use Rattle.rules.specs.Extents.{none, extent, end, joinable, join, slot, slots, flat}
+use Rattle.rules.specs.Extents.{none, extent, end, joinable, slot, slots, flat}
 use Rattle.rules.specs.declared.Extent.{Extent}
-use Rattle.laws.specs.Bools.{and-split, cases}
+use Rattle.laws.specs.Bools.{and-split}
 use Rattle.laws.specs.Sums.{count-same}
 use Rattle.laws.specs.Cells.{map-at}
 use Rattle.laws.specs.Slots.{slots-length, slots-at, slots-more, flat-slots}
 use Rattle.laws.specs.Unique.{extent-path}
 use Rattle.laws.specs.Runs.{joinable-true, join-joined, join-apart}
-use Rattle.laws.specs.Norm.{norm, move, movesTo}
+use Rattle.laws.specs.Norm.{norm, move}
 use Rattle.words.specs.Parts.{mid-tail, put-tail}
 use Rattle.reclaiming.specs.Covered.{covered}
 use Rattle.reclaiming.specs.Ranks.{Ranks}

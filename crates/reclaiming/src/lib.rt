@@ -2,9 +2,9 @@
 // map, each by itself. It stands behind the refusals: what a sound state promises is required here.
 use rules::Extent;
 ghost use mathlib.Core.Path.{_≡_};
-ghost use Prim.Native.Nat.{ℕ, _+_, _-_, _*_, _/_, _%_, _<_, _≤_, _^_};
+ghost use Prim.Native.Nat.{ℕ, _+_, _-_, _*_, _/_, _%_, _<_, _≤_};
 ghost use mathlib.Core.List.{map};
-ghost use lib.ListN.{length, getD, set, take};
+ghost use lib.ListN.{length, getD, take};
 ghost use Rattle.rules.specs.Counting.{most, count};
 ghost use Rattle.rules.specs.Blocks.{stride, fillWord, validWord};
 ghost use Rattle.rules.specs.Extents.{none, end, joinable, slot, slots};

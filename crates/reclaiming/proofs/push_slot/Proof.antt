@@ -1,5 +1,4 @@
-use Prim.Native.Nat.{ℕ}
-use mathlib.Core.Path.{_≡_, sym, ap, _∙_}
+use mathlib.Core.Path.{sym, ap, _∙_}
 use lib.ListN.{length-set}
 use Rattle.rules.specs.Extents.{slot}
 use Rattle.rules.specs.declared.Extent.{Extent}
@@ -12,41 +11,56 @@ use Rattle.reclaiming.proofs.push_slot.Tie as tie
 -- the slot that it is joined with
 last : (c : tie.Then1) → Last (c .before .before .before .before .before .before .args .n) (c .before .before .before .before .before .before .args .ext .now) (c .before .before .before .before .before .before .args .w) (slot (c .before .before .before .before .before .before .args .ext .now) (c .before .before .before .before .before .before .args .i))
 last c =
-  joins-last (c .before .before .before .before .before .before .args .n) (c .before .before .before .before .before .before .args .ext .now) (c .before .before .before .before .before .before .args .w) (slot (c .before .before .before .before .before .before .args .ext .now) (c .before .before .before .before .before .before .args .i))
-  (sym (c .before .joins-last .ensures) ∙ c .if1 .taken)
+    joins-last (c .before .before .before .before .before .before .args .n) (c .before .before .before .before .before .before .args .ext .now) (c .before .before .before .before .before .before .args .w) (slot (c .before .before .before .before .before .before .args .ext .now) (c .before .before .before .before .before .before .args .i))
+    (sym (c .before .joins-last .ensures) ∙ c .if1 .taken)
 
 slot-at-requires : tie.Need-slot-at-requires
 slot-at-requires c κs = search needs
+
 joins-last-requires : tie.Need-joins-last-requires
 joins-last-requires c κs = search needs
+
 sub-at : tie.Need-sub-at
 sub-at c = omega (arith, last c .some)
+
 mul-at : tie.Need-mul-at
 mul-at c = omega (arith, last c .some)
+
 add-at : tie.Need-add-at
 add-at c = omega (arith, last c .some)
+
 mul-ext : tie.Need-mul-ext
 mul-ext c = omega (arith, last c .some)
+
 slice-read-ext : tie.Need-slice-read-ext
 slice-read-ext c = omega (arith, last (c .before) .some)
+
 add-ext : tie.Need-add-ext
 add-ext c = omega (arith, last (c .before .before) .some, last (c .before .before) .logical, ap (λ (e : Extent). e .count) (c .before .before .before .before .before .slot-at .ensures))
+
 slice-write-ext : tie.Need-slice-write-ext
 slice-write-ext c = omega (arith, last (c .before .before) .some)
+
 same-length : tie.Need-same-length
 same-length c = simp length-set
+
 returns : tie.Need-returns
 returns c = pushed-joined (c .before .before .before .before .before .before .before .before .args .n) (c .before .before .before .before .before .before .before .before .args .ext .now) (c .before .before .before .before .before .before .before .before .args .w) (c .before .before .before .before .before .before .before .before .args .i) (c .before .before .before .before .before .slot-at .result) (omega arith) (omega arith) (c .before .before .before .before .before .slot-at .ensures)
-  (sym (c .before .before .before .joins-last .ensures) ∙ c .before .before .if1 .taken)
+    (sym (c .before .before .before .joins-last .ensures) ∙ c .before .before .if1 .taken)
+
 put-slot-requires : tie.Need-put-slot-requires
 put-slot-requires c κs = search needs
+
 add-result : tie.Need-add-result
 add-result c = search needs
+
 same-length-2 : tie.Need-same-length-2
 same-length-2 c = search needs
+
 returns-2 : tie.Need-returns-2
 returns-2 c = pushed-apart (c .before .before .before .before .before .before .before .before .before .before .args .n) (c .before .before .before .before .before .before .before .before .before .before .args .ext .now) (c .before .before .put-slot .last .0) (c .before .before .before .before .before .before .before .before .before .before .args .w) (c .before .before .before .before .before .before .before .before .before .before .args .i) (c .before .before .before .before .before .before .before .slot-at .result) (omega arith) (omega arith) (c .before .before .before .before .before .before .before .slot-at .ensures)
-  (sym (c .before .before .before .before .before .joins-last .ensures) ∙ c .before .before .before .before .if1 .left) (c .before .before .put-slot .ensures)
+    (sym (c .before .before .before .before .before .joins-last .ensures) ∙ c .before .before .before .before .if1 .left) (c .before .before .put-slot .ensures)
+
 pub push-slot-spec : {M : Type 1} → statement M
 push-slot-spec =
     tie.close
