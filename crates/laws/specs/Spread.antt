@@ -1,31 +1,30 @@
 -- Placement block by block: each block in turn takes what it has room for, and this gives what 01's page by page gives.
 -- Placement reads the fills, the reserve and N, and nothing else.
 use Prim.Native.Nat.{ℕ, zero, suc, _+_, _-_, _*_, _/_, _≤_, _<_, min}
-use mathlib.Core.Path.{_≡_, refl, sym, ap, ap₂, _∙_, subst}
+use mathlib.Core.Path.{_≡_, refl, sym, ap, ap₂, _∙_}
 use mathlib.Core.List.{List, [], _∷_}
-use mathlib.Core.Bool.{Bool, true, false, not, cond, _&&_}
+use mathlib.Core.Bool.{cond}
 use mathlib.Core.Logic.{by-cases}
 use native.Mathlib.Omega.{arith}
-use native.Mathlib.Numerals.{add-one}
 use native.Mathlib.Decide.{decLt, ℕ-discrete}
 use borrow.Author.Tests.{eq-eqb, ne-eqb}
 use lib.Arith.{digits-lt, digits-div}
-use lib.Dec.{eqb, ltb}
+use lib.Dec.{eqb}
 use lib.ListN.{length, getD, set, replicate, length-set, length-replicate}
 use lib.Seq.{sets, length-sets, getD-set-same, getD-set-other, set-set, set-comm}
-use Rattle.rules.specs.Counting.{one, count, tabulate, first}
+use Rattle.rules.specs.Counting.{one, count, tabulate}
 use Rattle.rules.specs.Extents.{none, extent, joinable, join, runs}
 use Rattle.rules.specs.Device.{Device, blocks, lines, at, fill, room, free, valid, mapped}
 use Rattle.rules.specs.Placement.{putAt, putsAt, placesAt, target, targets, puts, places, pieces}
 use Rattle.rules.specs.Number.{withTable, trimmed}
 use Rattle.rules.specs.declared.Extent.{Extent}
 use Rattle.laws.specs.Bools.{cases, never}
-use Rattle.laws.specs.Sums.{sum-change, count-same, count-none, count-first}
+use Rattle.laws.specs.Sums.{sum-change, count-none, count-first}
 use Rattle.laws.specs.Runs.{Joined, joinable-true, joined-true, join-joined, join-apart, runs-page}
 use Rattle.laws.specs.Device.{Sound, none-block}
 use Rattle.laws.specs.Balance
-use Rattle.laws.specs.Lines.{trimmed-sound, trimmed-in, fewer-free}
-use Rattle.laws.specs.Placed.{Open, Opens, target-open, target-lowest, puts-table, puts-pages, length-targets, length-placed, targets-open}
+use Rattle.laws.specs.Lines.{trimmed-sound, trimmed-in}
+use Rattle.laws.specs.Placed.{Open, target-open, target-lowest, puts-table, length-targets, length-placed, targets-open}
 use Rattle.laws.specs.Valid.{puts-valid}
 use Rattle.laws.specs.Counts.{runs-first}
 
@@ -159,7 +158,7 @@ spread-apart n reserve (f ∷ fs) b l want a h =
     by-cases (decLt 0 m)
     (λ s. rw (spread-some n reserve f fs b l want s) (join-apart n a (extent l (b * n + f) m) (spread n reserve fs (b + 1) (l + m) (want - m))
     (never (joinable n a (extent l (b * n + f) m)) (λ e.
-        omega (arith, joinable-true n a (extent l (b * n + f) m) e .block, digits-div b {m = n} {r = f} (omega (arith, taken-room n reserve b f want s)))))))
+    omega (arith, joinable-true n a (extent l (b * n + f) m) e .block, digits-div b {m = n} {r = f} (omega (arith, taken-room n reserve b f want s)))))))
     (λ s. rw (spread-skip n reserve f fs b l want (omega arith)) (spread-apart n reserve fs (b + 1) l want a (omega arith)))
 
 -- a page less of room

@@ -1,11 +1,11 @@
 -- Block records whose fill and valid count rise by what each block takes, block by block.
 use Prim.Native.Nat.{ℕ, zero, suc, _+_, _-_, _*_, _≤_, _<_}
-use mathlib.Core.Path.{_≡_, refl, sym, ap, ap₂, _∙_}
+use mathlib.Core.Path.{_≡_, refl, ap, ap₂, _∙_}
 use mathlib.Core.List.{List, [], _∷_}
 use mathlib.Core.Logic.{by-cases}
 use native.Mathlib.Omega.{arith}
 use native.Mathlib.Decide.{ℕ-discrete}
-use lib.ListN.{length, getD, set, length-set}
+use lib.ListN.{length, set, length-set}
 use lib.Seq.{getD-set-same, getD-set-other, set-getD}
 use Rattle.rules.specs.Blocks.{stride, fillWord, validWord}
 use Rattle.laws.specs.Spread.{taken, filled}
@@ -36,6 +36,15 @@ raised-none m b blk e =
     ap₂ (λ (x y : ℕ). set (set blk (stride * b) x) (stride * b + 1) y) f v
     ∙ ap (λ (ws : List ℕ). set ws (stride * b + 1) (validWord blk b)) (set-getD blk (stride * b) 0)
     ∙ set-getD blk (stride * b + 1) 0
+
+-- in the code's own terms
+pub raised-by : (m b : ℕ) (blk ws ws′ : List ℕ) (f v : ℕ) → f ≡ fillWord blk b → v ≡ validWord blk b
+    → ws ≡ set blk (stride * b) (f + m) → ws′ ≡ set ws (stride * b + 1) (v + m) → ws′ ≡ raised m b blk
+unfolding raised
+raised-by m b blk ws ws′ f v e g first second =
+    second
+    ∙ ap (λ (xs : List ℕ). set xs (stride * b + 1) (v + m)) first
+    ∙ ap₂ (λ (x y : ℕ). set (set blk (stride * b) (x + m)) (stride * b + 1) (y + m)) e g
 
 pub raised-length : (m b : ℕ) (blk : List ℕ) → length (raised m b blk) ≡ length blk
 unfolding raised

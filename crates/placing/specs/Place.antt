@@ -1,26 +1,23 @@
--- One block's part of a write, the way over all of them, and what it comes to on the device that placement sees.
-use Prim.Native.Nat.{ℕ, zero, suc, _+_, _-_, _*_, _≤_, _<_}
-use mathlib.Core.Path.{_≡_, refl, sym, ap, ap₂, _∙_}
+-- What `place_in` and `place` ask and promise: one block's part of a write, and the whole of it on the device that placement sees.
+use Prim.Native.Nat.{ℕ, suc, _+_, _-_, _*_, _≤_, _<_}
+use mathlib.Core.Path.{_≡_, sym, ap, ap₂, _∙_}
 use mathlib.Core.List.{List, [], _∷_, _++_, append-assoc}
-use mathlib.Core.Logic.{by-cases}
 use native.Mathlib.Omega.{arith}
-use native.Mathlib.Decide.{decLt}
 use lib.Dec.{eqb}
 use lib.ListN.{length, getD, set, take, drop}
-use lib.Seq.{sets, sets-eq, drop-drop, length-sets}
+use lib.Seq.{sets, sets-eq, drop-drop}
 use borrow.Rule.Slice.PartMut.{midOf, putMid, mid-len}
 use Rattle.rules.specs.Counting.{count, tabulate}
 use Rattle.rules.specs.Extents.{none, extent, flat}
 use Rattle.rules.specs.Blocks.{stride, fillWord, validWord}
-use Rattle.rules.specs.Device.{Device, blocks, fill, free}
+use Rattle.rules.specs.Device.{Device, blocks, free}
 use Rattle.rules.specs.Placement.{targets, puts, pieces}
 use Rattle.rules.specs.Calls.{over}
 use Rattle.rules.specs.declared.Extent.{Extent}
-use Rattle.laws.specs.Cells.{length-tabulate, getD-tabulate}
-use Rattle.laws.specs.Spread.{taken, listed, spread, filled, labelled, listed-none, listed-some, spread-pieces, puts-filled, puts-labelled, puts-rise, Alike, alike-free, alike-targets, alike-puts, alike-pieces}
+use Rattle.laws.specs.Cells.{length-tabulate}
+use Rattle.laws.specs.Spread.{listed, listed-none, listed-some, Alike, alike-targets, alike-puts, alike-pieces}
 use Rattle.placing.specs.Bare.{fillsOf, bare}
-use Rattle.placing.specs.Blocks.{raised, fillsFrom, raises, raised-none, raised-length, raised-rise, raised-after, raises-fills, raises-rise}
-use Rattle.placing.specs.Rest.{rest, takes, fills-all, rest-start, rest-next, rest-end}
+use Rattle.placing.specs.Blocks.{raised, raised-none}
 
 -- ---- one block
 
@@ -41,7 +38,7 @@ pub record Fits (blk spare out : List ℕ) (b n l m k : ℕ) : Type 0 where
   pub slot : 0 < m → 3 * k + 3 ≤ length out
 
 pub record PlacedIn (blk spare out blk′ spare′ out′ : List ℕ) (b n l m k r : ℕ) : Type 0 where
-  pub count : r ≡ k + length (listed (pieceIn blk b n l m) [])
+  pub many : r ≡ k + length (listed (pieceIn blk b n l m) [])
   pub records : blk′ ≡ raised m b blk
   pub labels : spare′ ≡ sets spare (b * n + fillWord blk b) (tabulate m (λ i. l + i))
   pub pieces : out′ ≡ sets out (3 * k) (flat (listed (pieceIn blk b n l m) []))
@@ -66,7 +63,7 @@ placed-none blk spare out b n l m k e =
     let x = pieceIn blk b n l m in
     let none-listed = listed-none x [] e in
     record {
-      count = omega (arith, ap length none-listed);
+      many = omega (arith, ap length none-listed);
       records = sym (raised-none m b blk e);
       labels = sym (ap (λ (c : ℕ). sets spare (b * n + fillWord blk b) (tabulate c (λ i. l + i))) e);
       pieces = sym (ap (λ (es : List Extent). sets out (3 * k) (flat es)) none-listed);
@@ -85,8 +82,42 @@ placed-some blk spare out blk′ ys out′ b n l m k f e s h labels records piec
     let all : ys ≡ tabulate m (λ i. l + i) = labels ∙ ap (λ (c : ℕ). tabulate c (λ i. l + i)) part in
     let size : length ys ≡ p + m - p = ap length all ∙ length-tabulate m (λ i. l + i) ∙ omega arith in
     record {
-      count = omega (arith, ap length one-listed);
+      many = omega (arith, ap length one-listed);
       records = records;
       labels = put-part p (p + m) spare ys (omega arith) h size ∙ ap₂ (λ (y : ℕ) (vs : List ℕ). sets spare (b * n + y) vs) e all;
       pieces = pieces ∙ ap (λ (y : ℕ). sets out (3 * k) (l ∷ (b * n + y) ∷ m ∷ [])) e ∙ sym (ap (λ (es : List Extent). sets out (3 * k) (flat es)) one-listed);
+    }
+
+-- ---- what it comes to
+
+-- what a write has to bring: free pages, and an answer buffer long enough
+pub record Ready (blocks n reserve l want : ℕ) (blk spare out : List ℕ) : Type 0 where
+  pub blk-size : stride * blocks ≤ length blk
+  pub spare-size : blocks * n ≤ length spare
+  pub blocks-few : blocks ≤ 1024
+  pub pages-few : n ≤ 256
+  pub valid : (b : ℕ) → b < blocks → validWord blk b ≤ fillWord blk b
+  pub lines : l + want ≤ none
+  pub room : want ≤ free (bare blocks n reserve blk spare)
+  pub slots : 3 * length (pieces l want (bare blocks n reserve blk spare)) ≤ length out
+
+-- what it comes to on a device with the words' pages, fills, labels and reserve
+pub record Placed (d : Device) (l want : ℕ) (blk out blk′ spare′ out′ : List ℕ) (r : ℕ) : Type 0 where
+  pub many : r ≡ length (pieces l want d)
+  pub answer : out′ ≡ over (flat (pieces l want d)) out
+  pub spare : spare′ ≡ puts l want d .spare
+  pub fills : fillsOf (blocks d) blk′ ≡ puts l want d .fills
+  pub valid : (b : ℕ) → b < blocks d → validWord blk′ b ≡ validWord blk b + count want (λ i. eqb (getD (targets l want d) i 0) b)
+
+-- the same on any device with these pages, fills, labels and reserve: the table is not read
+pub placed-alike : (d e : Device) (l want : ℕ) (blk out blk′ spare′ out′ : List ℕ) (r : ℕ) → Alike d e → Placed d l want blk out blk′ spare′ out′ r → Placed e l want blk out blk′ spare′ out′ r
+placed-alike d e l want blk out blk′ spare′ out′ r a p =
+    let same = alike-pieces l want d e a in
+    let size : blocks d ≡ blocks e = ap length (a .fills) in
+    record {
+      many = p .many ∙ ap length same;
+      answer = p .answer ∙ ap (λ (es : List Extent). over (flat es) out) same;
+      spare = p .spare ∙ alike-puts l want d e a .spare;
+      fills = ap (λ (k : ℕ). fillsOf k blk′) (sym size) ∙ p .fills ∙ alike-puts l want d e a .fills;
+      valid = λ b h. p .valid b (omega arith) ∙ ap (λ (bs : List ℕ). validWord blk b + count want (λ i. eqb (getD bs i 0) b)) (alike-targets l want d e a);
     }

@@ -10,7 +10,7 @@ use Rattle.rules.specs.Extents.{extent}
 use Rattle.rules.specs.Blocks.{fillWord}
 use Rattle.rules.specs.declared.Extent.{Extent}
 use Rattle.laws.specs.Cells.{block-le}
-use Rattle.laws.specs.Spread.{taken, listed, spread, firstPage, listed-none, listed-some, spread-skip, spread-some, spread-length, taken-none, taken-some, tabulate-each}
+use Rattle.laws.specs.Spread.{taken, listed, spread, firstPage, spread-skip, spread-some, spread-length, taken-none, taken-some, tabulate-each}
 use Rattle.placing.specs.Bare.{fillsOf}
 use Rattle.placing.specs.Blocks.{fillsFrom}
 

@@ -9,7 +9,7 @@ ghost use Rattle.rules.specs.Blocks.{stride, fillWord, validWord};
 ghost use Rattle.laws.specs.Spread.{taken, spread, firstPage};
 ghost use Rattle.placing.specs.Bare.{fillsOf, bare};
 ghost use Rattle.placing.specs.Blocks.{raised};
-ghost use Rattle.placing.specs.Place.{Fits, PlacedIn};
+ghost use Rattle.placing.specs.Place.{Fits, PlacedIn, Ready, Placed};
 
 // What block b takes of `want` pages.
 fn room_in(blk: &[u32], b: usize, n: u32, reserve: u32, want: u32) -> u32
@@ -88,7 +88,16 @@ fn list(out: &mut [u32], k: usize, l: u32, p: u32, c: u32)
 }
 
 // One block's part of a write: the labels of its m pages, its record, and piece k. Nothing where m is 0.
-fn place_in(blk: &mut [u32], spare: &mut [u32], out: &mut [u32], b: usize, n: u32, l: u32, m: u32, k: u32) -> u32
+fn place_in(
+    blk: &mut [u32],
+    spare: &mut [u32],
+    out: &mut [u32],
+    b: usize,
+    n: u32,
+    l: u32,
+    m: u32,
+    k: u32,
+) -> u32
     requires { ⌜ Fits (now blk) (now spare) (now out) b n l m k ⌝ }
     ensures { λ r. ⌜ PlacedIn (now (blk .entry)) (now (spare .entry)) (now (out .entry)) (now (blk .exit)) (now (spare .exit)) (now (out .exit)) b n l m k r ⌝ }
 {
@@ -101,4 +110,30 @@ fn place_in(blk: &mut [u32], spare: &mut [u32], out: &mut [u32], b: usize, n: u3
     raise(blk, b, m);
     list(out, k as usize, l, page, m);
     k + 1
+}
+
+// Places `want` pages for lines l, l + 1, .. and lists the pieces. Answers how many there are.
+pub fn place(
+    blk: &mut [u32],
+    spare: &mut [u32],
+    out: &mut [u32],
+    blocks: u32,
+    n: u32,
+    reserve: u32,
+    l: u32,
+    want: u32,
+) -> u32
+    requires { ⌜ Ready blocks n reserve l want (now blk) (now spare) (now out) ⌝ }
+    ensures { λ r. ⌜ Placed (bare blocks n reserve (now (blk .entry)) (now (spare .entry))) l want (now (blk .entry)) (now (out .entry)) (now (blk .exit)) (now (spare .exit)) (now (out .exit)) r ⌝ }
+{
+    let mut done: u32 = 0;
+    let mut k: u32 = 0;
+    let mut b: usize = 0;
+    while b < blocks as usize {
+        let m = room_in(blk, b, n, reserve, want - done);
+        k = place_in(blk, spare, out, b, n, l + done, m, k);
+        done += m;
+        b += 1;
+    }
+    k
 }

@@ -1,5 +1,5 @@
-use Prim.Native.Nat.{ℕ, _+_, _-_, _*_, _≤_, _<_}
-use mathlib.Core.Path.{_≡_, refl}
+use Prim.Native.Nat.{_-_, _≤_}
+use mathlib.Core.Path.{refl}
 use native.Mathlib.Omega.{arith}
 use borrow.Author.Needs.{needs}
 use Rattle.rules.specs.Blocks.{fillWord}
@@ -7,10 +7,6 @@ use Rattle.laws.specs.Spread.{taken-room}
 use Rattle.placing.specs.Rest.{Passed, passed-next, passed-end, passed-found, page-small}
 use Rattle.placing.proofs.first_page.Statement.{statement}
 use Rattle.placing.proofs.first_page.Tie as tie
-use Rattle.placing.proofs.first_page.Reads as reads
-use Rattle.placing.proofs.first_page.Lts as lts
-use Rattle.placing.proofs.room_in.Reads as room-in-reads
-use Rattle.words.proofs.fill_of.Reads as fill-of-reads
 
 abbrev Inv-loop : tie.InvT-loop
 Inv-loop blk blocks n reserve b₀ b = (b ≤ blocks) × Passed n reserve blocks blk b
@@ -18,30 +14,24 @@ Inv-loop blk blocks n reserve b₀ b = (b ≤ blocks) × Passed n reserve blocks
 abbrev μ-loop : tie.MeasureT-loop
 μ-loop blk blocks n reserve b₀ b = blocks - b
 
--- src/lib.rt:53:5
 loop-holds : tie.Need-loop-holds Inv-loop μ-loop
 loop-holds c = (search needs, λ l want h. refl)
 
--- src/lib.rt:54:16
 room-in-requires : tie.Need-room-in-requires Inv-loop μ-loop
 room-in-requires c κs = search needs
 
--- src/lib.rt:55:21
 cast-result : tie.Need-cast-result Inv-loop μ-loop
 cast-result c = search needs
 
--- src/lib.rt:55:20
 mul-result : tie.Need-mul-result Inv-loop μ-loop
 mul-result c =
     let i = c .before .before .before .loop in
     let v = c .before .before .before .before .before .args in
     omega (arith, page-small (v .blocks) (v .n) (i .b) 0 (omega arith) (omega arith) (omega arith) (omega arith))
 
--- src/lib.rt:55:37
 fill-of-requires : tie.Need-fill-of-requires Inv-loop μ-loop
 fill-of-requires c κs = search needs
 
--- src/lib.rt:55:20
 add-result : tie.Need-add-result Inv-loop μ-loop
 add-result c =
     let i = c .before .before .before .before .loop in
@@ -50,29 +40,24 @@ add-result c =
     let h = taken-room (v .n) (v .reserve) (i .b) f 1 (omega arith) in
     omega (arith, page-small (v .blocks) (v .n) (i .b) f (omega arith) (omega arith) (omega arith) (omega arith))
 
--- src/lib.rt:55:13
 returns : tie.Need-returns Inv-loop μ-loop
 returns c l want h =
     let i = c .before .before .before .before .loop in
     let v = c .before .before .before .before .before .before .args in
     omega (arith, passed-found (v .n) (v .reserve) (v .blocks) (v .blk .now) (i .b) (omega arith) (i .inv .1) (omega arith) l want h)
 
--- src/lib.rt:57:9
 add-b : tie.Need-add-b Inv-loop μ-loop
 add-b c = search needs
 
--- src/lib.rt:53:5
 loop-less : tie.Need-loop-less Inv-loop μ-loop
 loop-less c = search needs
 
--- src/lib.rt:53:5
 loop-again : tie.Need-loop-again Inv-loop μ-loop
 loop-again c =
     let i = c .before .before .before .loop in
     let v = c .before .before .before .before .before .args in
     (search needs, passed-next (v .n) (v .reserve) (v .blocks) (v .blk .now) (i .b) (omega arith) (i .inv .1) (omega arith))
 
--- src/lib.rt:48:1
 returns-2 : tie.Need-returns-2 Inv-loop μ-loop
 returns-2 c =
     let i = c .before .loop in

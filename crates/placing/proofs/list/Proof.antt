@@ -5,50 +5,37 @@ use Rattle.placing.specs.Place.{three-words}
 use borrow.Author.Needs.{needs}
 use Rattle.placing.proofs.list.Statement.{statement}
 use Rattle.placing.proofs.list.Tie as tie
-use Rattle.placing.proofs.list.Reads as reads
-use Rattle.placing.proofs.list.Lts as lts
 
--- src/lib.rt:84:14
 mul-at : tie.Need-mul-at
 mul-at c = search needs
 
--- src/lib.rt:85:5
 mul-out : tie.Need-mul-out
 mul-out c = search needs
 
--- src/lib.rt:85:5
 slice-write-out : tie.Need-slice-write-out
 slice-write-out c = search needs
 
--- src/lib.rt:86:9
 add-out : tie.Need-add-out
 add-out c = search needs
 
--- src/lib.rt:86:5
 mul-out-2 : tie.Need-mul-out-2
 mul-out-2 c = search needs
 
--- src/lib.rt:86:5
 slice-write-out-2 : tie.Need-slice-write-out-2
 slice-write-out-2 c = simp length-set (omega arith)
 
--- src/lib.rt:87:9
 add-out-2 : tie.Need-add-out-2
 add-out-2 c = search needs
 
--- src/lib.rt:87:5
 mul-out-3 : tie.Need-mul-out-3
 mul-out-3 c = search needs
 
--- src/lib.rt:87:5
 slice-write-out-3 : tie.Need-slice-write-out-3
 slice-write-out-3 c = simp length-set (omega arith)
 
--- src/lib.rt:80:1
 same-length : tie.Need-same-length
 same-length c = search needs
 
--- src/lib.rt:80:1
 returns : tie.Need-returns
 returns c = let v = c .args in three-words (v .out .now) (3 * v .k) (v .l) (v .p) (v .c)
 

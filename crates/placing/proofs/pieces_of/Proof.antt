@@ -1,17 +1,13 @@
-use Prim.Native.Nat.{ℕ, _+_, _-_, _≤_, _<_}
+use Prim.Native.Nat.{_+_, _-_, _≤_, _<_}
 use mathlib.Core.Path.{_≡_}
 use mathlib.Core.Logic.{⊎-elim}
 use native.Mathlib.Omega.{arith}
 use borrow.Author.Needs.{needs}
-use lib.ListN.{length}
 use Rattle.rules.specs.Blocks.{fillWord}
 use Rattle.laws.specs.Spread.{taken-le}
-use Rattle.placing.specs.Rest.{takes, howMany, many-start, many-end, many-skip, many-some}
+use Rattle.placing.specs.Rest.{howMany, many-start, many-end, many-skip, many-some}
 use Rattle.placing.proofs.pieces_of.Statement.{statement}
 use Rattle.placing.proofs.pieces_of.Tie as tie
-use Rattle.placing.proofs.pieces_of.Reads as reads
-use Rattle.placing.proofs.pieces_of.Lts as lts
-use Rattle.placing.proofs.room_in.Reads as room-in-reads
 
 abbrev Inv-loop : tie.InvT-loop
 Inv-loop blk blocks n reserve want count₀ left₀ b₀ count left b = (b ≤ blocks) × (count ≤ b) × (count + howMany n reserve blocks blk b left ≡ howMany n reserve blocks blk 0 want)
@@ -19,34 +15,27 @@ Inv-loop blk blocks n reserve want count₀ left₀ b₀ count left b = (b ≤ b
 abbrev μ-loop : tie.MeasureT-loop
 μ-loop blk blocks n reserve want count₀ left₀ b₀ count left b = blocks - b
 
--- src/lib.rt:36:5
 loop-holds : tie.Need-loop-holds Inv-loop μ-loop
 loop-holds c = (search needs, search needs, search needs)
 
--- src/lib.rt:37:13
 room-in-requires : tie.Need-room-in-requires Inv-loop μ-loop
 room-in-requires c κs = search needs
 
--- src/lib.rt:39:13
 add-count : tie.Need-add-count Inv-loop μ-loop
 add-count c = search needs
 
--- src/lib.rt:41:9
 sub-left : tie.Need-sub-left Inv-loop μ-loop
 sub-left c =
     let i = c .before .before .before .loop in
     let v = c .before .before .before .before .before .args in
     omega (arith, taken-le (v .n) (v .reserve) (i .b) (fillWord (v .blk .now) (i .b)) (i .left))
 
--- src/lib.rt:42:9
 add-b : tie.Need-add-b Inv-loop μ-loop
 add-b c = search needs
 
--- src/lib.rt:36:5
 loop-less : tie.Need-loop-less Inv-loop μ-loop
 loop-less c = search needs
 
--- src/lib.rt:36:5
 loop-again : tie.Need-loop-again Inv-loop μ-loop
 loop-again c =
     let i = c .before .before .before .loop in
@@ -59,7 +48,6 @@ loop-again c =
     (λ w. (omega arith, omega arith, omega (arith, many-skip (v .n) (v .reserve) (v .blocks) (v .blk .now) (i .b) (i .left) m h t (omega arith))))
     (c .if1 .came)
 
--- src/lib.rt:29:1
 returns : tie.Need-returns Inv-loop μ-loop
 returns c l =
     let i = c .before .loop in

@@ -3,88 +3,63 @@ use Rattle.placing.specs.Place.{placed-none, placed-some}
 use borrow.Author.Needs.{needs}
 use Rattle.placing.proofs.place_in.Statement.{statement}
 use Rattle.placing.proofs.place_in.Tie as tie
-use Rattle.placing.proofs.place_in.Reads as reads
-use Rattle.placing.proofs.place_in.Lts as lts
-use Rattle.placing.proofs.list.Reads as list-reads
-use Rattle.placing.proofs.raise.Reads as raise-reads
-use Rattle.words.proofs.fill_of.Reads as fill-of-reads
-use Rattle.words.proofs.fill_rise.Reads as fill-rise-reads
 
--- src/lib.rt:96:9
 returns : tie.Need-returns
 returns c = placed-none _ _ _ _ _ _ _ _ (omega arith)
 
--- src/lib.rt:98:17
 cast-page : tie.Need-cast-page
 cast-page c = search needs
 
--- src/lib.rt:98:16
 mul-page : tie.Need-mul-page
 mul-page c = search needs
 
--- src/lib.rt:98:33
 fill-of-requires : tie.Need-fill-of-requires
 fill-of-requires c κs = search needs
 
--- src/lib.rt:98:16
 add-page : tie.Need-add-page
 add-page c = omega (arith, c .before .before .before .before .before .before .pre .below (omega arith))
 
--- src/lib.rt:99:17
 cast-first : tie.Need-cast-first
 cast-first c = search needs
 
--- src/lib.rt:100:40
 add-fill-rise : tie.Need-add-fill-rise
 add-fill-rise c = search needs
 
--- src/lib.rt:100:22
 mul-fill-rise : tie.Need-mul-fill-rise
 mul-fill-rise c = search needs
 
--- src/lib.rt:100:22
 sub-fill-rise : tie.Need-sub-fill-rise
 sub-fill-rise c = search needs
 
--- src/lib.rt:100:22
 part-fill-rise-start : tie.Need-part-fill-rise-start
 part-fill-rise-start c = search needs
 
--- src/lib.rt:100:22
 part-fill-rise-end : tie.Need-part-fill-rise-end
 part-fill-rise-end c = omega (arith, c .before .before .before .before .before .before .pre .below (omega arith))
 
--- src/lib.rt:100:5
 fill-rise-requires : tie.Need-fill-rise-requires
 fill-rise-requires c κs = search needs
 
--- src/lib.rt:101:5
 raise-requires : tie.Need-raise-requires
 raise-requires c κs =
     let h = c .before .before .before .before .before .before .before .before .before .before .before .pre .below (omega arith) in
     (omega arith, omega arith, omega arith)
 
--- src/lib.rt:102:5
 list-requires : tie.Need-list-requires
 list-requires c κs = c .before .before .before .before .before .before .before .before .before .before .before .before .before .before .before .pre .slot (omega arith)
 
--- src/lib.rt:103:5
 add-result : tie.Need-add-result
 add-result c = search needs
 
--- src/lib.rt:91:1
 same-length : tie.Need-same-length
 same-length c = search needs
 
--- src/lib.rt:91:1
 same-length-2 : tie.Need-same-length-2
 same-length-2 c = search needs
 
--- src/lib.rt:91:1
 same-length-3 : tie.Need-same-length-3
 same-length-3 c = search needs
 
--- src/lib.rt:91:1
 returns-2 : tie.Need-returns-2
 returns-2 c =
     let v = c .before .before .before .before .before .before .before .before .before .before .before .before .before .before .before .before .before .before .args in
