@@ -5,3 +5,4 @@ pub mod Clip
 pub mod Cutting
 pub mod Pieces
 pub mod Placing
+pub mod Lowered

@@ -1,0 +1,68 @@
+-- Nothing, or one valid count stored.
+use mathlib.Core.Path.{refl}
+use Rattle.rules.specs.Extents.{slot}
+use Rattle.map.specs.Lowered.{lowered-same, lowered-set}
+use native.Mathlib.Omega.{arith}
+use borrow.Author.Needs.{needs}
+use Rattle.map.proofs.lower_slot.Statement.{statement}
+use Rattle.map.proofs.lower_slot.Tie as tie
+
+overlap-of-requires : tie.Need-overlap-of-requires
+overlap-of-requires c κs = search needs
+
+returns : tie.Need-returns
+returns c = lowered-same _ _ _ _ _ (omega (arith, c .before .overlap-of .ensures))
+
+mul-at : tie.Need-mul-at
+mul-at c = search needs
+
+add-b : tie.Need-add-b
+add-b c = search needs
+
+mul-b : tie.Need-mul-b
+mul-b c = search needs
+
+shared-slice-read-b : tie.Need-shared-slice-read-b
+shared-slice-read-b c = search needs
+
+div-b : tie.Need-div-b
+div-b c = search needs
+
+cast-b : tie.Need-cast-b
+cast-b c = search needs
+
+valid-of-requires : tie.Need-valid-of-requires
+valid-of-requires c κs = search needs
+
+sub-put-valid : tie.Need-sub-put-valid
+sub-put-valid c = search needs
+
+put-valid-requires : tie.Need-put-valid-requires
+put-valid-requires c κs = search needs
+
+same-length : tie.Need-same-length
+same-length c = search needs
+
+returns-2 : tie.Need-returns-2
+returns-2 c =
+    let a = c .before .before .before .before .before .before .before .before .before .before .before .args in
+    lowered-set (a .pages) (a .l) (a .e) _ _ _ (slot (a .ext .now) (a .i)) (a .blk .now) _ refl (c .before .before .before .before .before .before .before .before .overlap-of .ensures) (c .before .before .before .before .valid-of .ensures)
+    (omega arith) (omega (arith, c .before .before .before .before .before .before .before .before .overlap-of .ensures, c .before .before .before .before .valid-of .ensures)) (c .before .before .put-valid .ensures)
+
+pub lower-slot-spec : {M : Type 1} → statement M
+lower-slot-spec =
+    tie.close
+    (tie.spec
+    overlap-of-requires
+    returns
+    mul-at
+    add-b
+    mul-b
+    shared-slice-read-b
+    div-b
+    cast-b
+    valid-of-requires
+    sub-put-valid
+    put-valid-requires
+    same-length
+    returns-2)
