@@ -32,7 +32,8 @@ use Rattle.laws.specs.Reclaimed.{re-blocks, re-fill-victim, re-fill-reserve, re
 use Rattle.laws.specs.Valid.{re-valid-victim, re-valid-reserve, re-valid}
 use Rattle.laws.specs.Ranked.{rows-ranked}
 use Rattle.laws.specs.Records.{records-length, records-fill, records-valid, words-records}
-use Rattle.laws.specs.Encoded.{table-small, reclaim-extents}
+use Rattle.laws.specs.States.{table-lines}
+use Rattle.laws.specs.Encoded.{reclaim-extents}
 use Rattle.reclaiming.specs.Stale.{staleWord}
 use Rattle.reclaiming.specs.Covered.{holds, covered, holds-true, true-holds}
 use Rattle.reclaiming.specs.Ranks.{Ranks, rises, rises-live}
@@ -120,11 +121,11 @@ module _ (d : Device) (s : Sound d) where
 
   rows : Rows (d .pages) 0 none (lines d) (extents d)
   unfolding extents
-  rows = runs-rows (d .pages) (s .some) (d .table) 0 (lines d) (table-small d s) (omega arith)
+  rows = runs-rows (d .pages) (s .some) (d .table) 0 (lines d) (table-lines d s) (omega arith)
 
   says : (l : ℕ) → lookup (extents d) l ≡ at d l
   unfolding extents
-  says l = runs-lookup (d .pages) (s .some) (d .table) 0 l l (table-small d s) (omega arith)
+  says l = runs-lookup (d .pages) (s .some) (d .table) 0 l l (table-lines d s) (omega arith)
 
   -- the pages that the extents hold are the mapped ones
   pub covered-named : (v : ℕ) → v < blocks d → (o : ℕ) → o < d .pages → covered (extents d) (d .pages) v o ≡ named d v o

@@ -1,3 +1,5 @@
 pub mod Refusals
+pub mod Numbered
 pub mod Report
 pub mod Reading
+pub mod Trimming

@@ -11,6 +11,7 @@ ghost use Rattle.rules.specs.Lent.{lent};
 ghost use Rattle.rules.specs.Answers.{refuse};
 ghost use Rattle.rules.specs.Calls.{Call, verdict};
 ghost use Rattle.verdicts.specs.Refusals.{told, lentRefusal, roomed};
+ghost use Rattle.verdicts.specs.Numbered.{numberRefusal};
 
 pub enum Verdict {
     Accepted,
@@ -58,6 +59,35 @@ pub fn read_verdict(h: Head, ext: &[u32], blk: &[u32], spare: &[u32], l: u32, n:
     let used = h.used as usize;
     if room / 3 < reading::count_found(ext, used, l, l + n) {
         return Verdict::Refused(Refusal::OutShort);
+    }
+    Verdict::Accepted
+}
+
+// The test of a number.
+pub fn number_verdict(h: Head, number: u64) -> Verdict
+    ensures { λ v. ⌜ told v ≡ numberRefusal h number ⌝ }
+{
+    if number <= h.last {
+        return Verdict::Refused(Refusal::Applied);
+    }
+    Verdict::Accepted
+}
+
+// 3, 4 and 6 of a trim, of a sound state.
+pub fn trim_verdict(h: Head, ext: &[u32], blk: &[u32], spare: &[u32], number: u64, l: u32, n: u32) -> Verdict
+    requires { ⌜ Shaped (lent h (now ext) (now blk) (now spare)) × Sane (lent h (now ext) (now blk) (now spare)) ⌝ }
+    ensures { λ v. ⌜ told v ≡ trimRefusal number l n (deviceOf (lent h (now (ext .entry)) (now (blk .entry)) (now (spare .entry)))) ⌝ }
+{
+    if !in_range(h.logical, l, n) {
+        return Verdict::Refused(Refusal::Range);
+    }
+    let j = number_verdict(h, number);
+    if let Verdict::Refused(r) = j {
+        return Verdict::Refused(r);
+    }
+    let sides = map::around(ext, h.used as usize, l, l + n);
+    if (h.slots as usize) < sides.before + sides.after {
+        return Verdict::Refused(Refusal::NoNodes);
     }
     Verdict::Accepted
 }
