@@ -60,7 +60,15 @@ pub fn report(h: Head, ext: &[u32], blk: &[u32], spare: &[u32]) -> Counted
 }
 
 // A read that nothing refuses: how many pieces it listed.
-fn list_pieces(h: Head, ext: &[u32], blk: &[u32], spare: &[u32], l: u32, n: u32, out: &mut [u32]) -> u32
+fn list_pieces(
+    h: Head,
+    ext: &[u32],
+    blk: &[u32],
+    spare: &[u32],
+    l: u32,
+    n: u32,
+    out: &mut [u32],
+) -> u32
     requires { ⌜ Ready (Call.read l n (now out)) (lent h (now ext) (now blk) (now spare)) ⌝ }
     ensures { λ k. ⌜ ListedPieces l n (lent h (now (ext .entry)) (now (blk .entry)) (now (spare .entry))) k (now (out .entry)) (now (out .exit)) ⌝ }
 {
@@ -70,7 +78,15 @@ fn list_pieces(h: Head, ext: &[u32], blk: &[u32], spare: &[u32], l: u32, n: u32,
     k as u32
 }
 
-pub fn read(h: Head, ext: &[u32], blk: &[u32], spare: &[u32], l: u32, n: u32, out: &mut [u32]) -> Listed
+pub fn read(
+    h: Head,
+    ext: &[u32],
+    blk: &[u32],
+    spare: &[u32],
+    l: u32,
+    n: u32,
+    out: &mut [u32],
+) -> Listed
     ensures { λ r. ⌜ outcome (listed r) (now (ext .entry)) (now (blk .entry)) (now (spare .entry)) (now (out .exit)) ≡ call (Call.read l n (now (out .entry))) (lent h (now (ext .entry)) (now (blk .entry)) (now (spare .entry))) ⌝ }
 {
     let v = verdicts::lent_verdict(h, ext, blk, spare);

@@ -51,7 +51,10 @@ pub fn around(ext: &[u32], used: usize, l: u32, e: u32) -> Sides
         }
         i += 1;
     }
-    Sides { before: before, after: after }
+    Sides {
+        before: before,
+        after: after,
+    }
 }
 
 // The last extent before slot `before` goes on with logical page l on page p.
@@ -210,7 +213,14 @@ fn splice(ext: &mut [u32], used: usize, i: usize, new: &[u32], s: usize, k: usiz
 
 // k new pieces come in at slot `before`, where the first is `joined` to the extent in front of it or not. The slots then in use are
 // returned.
-pub fn put_pieces(ext: &mut [u32], used: usize, before: usize, joined: bool, new: &[u32], k: usize) -> usize
+pub fn put_pieces(
+    ext: &mut [u32],
+    used: usize,
+    before: usize,
+    joined: bool,
+    new: &[u32],
+    k: usize,
+) -> usize
     requires { ⌜ Puttable (now ext) used before joined (now new) k ⌝ }
     ensures { λ r. ⌜ Becomes (length (now (ext .entry))) (putIn before joined (slots (now (new .entry)) 0 k) (slots (now (ext .entry)) 0 used)) (now (ext .exit)) r ⌝ }
 {

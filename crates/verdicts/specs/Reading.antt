@@ -19,7 +19,8 @@ use Rattle.laws.specs.Bools.{or-split}
 use Rattle.laws.specs.Read.{found-window}
 use Rattle.laws.specs.Sane.{Shaped, Sane}
 use Rattle.laws.specs.States.{device-lines, extents-in-use, sane-good, table-lines}
-use Rattle.reading.specs.Walk.{between, Sound}
+use Rattle.reading.specs.Walk.{between}
+use Rattle.map.specs.Sound.{Sound}
 use Rattle.verdicts.specs.Refusals.{roomed, refuse-here, refuse-later}
 
 -- a range that is not outside

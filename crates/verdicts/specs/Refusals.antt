@@ -115,8 +115,8 @@ pub lent-some : (c : Call) (s : Lent) (r : Refusal) → number r ≡ lentRefusal
 lent-some c s r e =
     cases (shaped s)
     (λ f. cases (sound s)
-        (λ g. absurd (number-some r (e ∙ sym (lent-sound s f g))))
-        (λ g. verdict-damaged c s f g ∙ lent-damaged s f g ∙ sym e))
+    (λ g. absurd (number-some r (e ∙ sym (lent-sound s f g))))
+    (λ g. verdict-damaged c s f g ∙ lent-damaged s f g ∙ sym e))
     (λ f. verdict-shape c s f ∙ lent-shape s f ∙ sym e)
 
 -- a call that was told to refuse

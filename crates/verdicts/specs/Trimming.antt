@@ -6,6 +6,7 @@ use native.Mathlib.Omega.{arith}
 use borrow.Author.Tests.{lt-ltb, le-ltb}
 use lib.Dec.{eqb, ltb}
 use lib.ListN.{length}
+use Rattle.rules.specs.Extents.{end}
 use Rattle.rules.specs.Lent.{Lent, inUse}
 use Rattle.rules.specs.Device.{Device, extents, deviceOf}
 use Rattle.rules.specs.Number.{judged, trimmed, withTable}
@@ -13,13 +14,26 @@ use Rattle.rules.specs.Answers.{number, refuse}
 use Rattle.rules.specs.Calls.{outside, tooMany, trimRefusal}
 use Rattle.rules.specs.declared.Refusal.{Refusal}
 use Rattle.laws.specs.Sane.{Shaped, Sane}
-use Rattle.laws.specs.Counts.{startsBefore, endsAfter}
+use Rattle.laws.specs.Counts.{startsBefore, endsAfter, tally-le}
+use Rattle.laws.specs.Slots.{slots-length}
 use Rattle.laws.specs.Growth.{trim-grows}
 use Rattle.laws.specs.States.{device-lines, extents-in-use, sane-good}
 use Rattle.verdicts.specs.Refusals.{told, refuse-here, refuse-later}
 use Rattle.verdicts.specs.Numbered.{numberRefusal, number-refuses, number-passes}
 use Rattle.verdicts.specs.Reading.{outside-words, range-fits}
 use Rattle.verdicts.specs.declared.Verdict.{Verdict}
+
+-- the extents before a range and those after it are at most twice the slots
+pub few-around : (s : Lent) → Shaped s → Sane s → (l e : ℕ) → startsBefore l (inUse s) + endsAfter e (inUse s) ≤ 16384
+few-around s h z l e =
+    omega (
+      arith,
+      tally-le (λ x. ltb (x .logical) l) (inUse s),
+      tally-le (λ x. ltb e (end x)) (inUse s),
+      slots-length (s .extents) 0 (s .head .used),
+      z .few,
+      h .sizes .m-high,
+    )
 
 module _ (s : Lent) (h : Shaped s) (z : Sane s) (k l n : ℕ) where
   -- the extents afterwards

@@ -49,7 +49,15 @@ ghost use Rattle.rules.specs.Calls.{readRefusal, trimRefusal, writeRefusal, rec
 ghost use Rattle.laws.specs.Sane.{Shaped, Sane};
 
 // 3 and 7, of a sound state.
-pub fn read_verdict(h: Head, ext: &[u32], blk: &[u32], spare: &[u32], l: u32, n: u32, room: usize) -> Verdict
+pub fn read_verdict(
+    h: Head,
+    ext: &[u32],
+    blk: &[u32],
+    spare: &[u32],
+    l: u32,
+    n: u32,
+    room: usize,
+) -> Verdict
     requires { ⌜ Shaped (lent h (now ext) (now blk) (now spare)) × Sane (lent h (now ext) (now blk) (now spare)) ⌝ }
     ensures { λ v. ⌜ told v ≡ readRefusal l n (roomed room) (deviceOf (lent h (now (ext .entry)) (now (blk .entry)) (now (spare .entry)))) ⌝ }
 {
@@ -74,7 +82,15 @@ pub fn number_verdict(h: Head, number: u64) -> Verdict
 }
 
 // 3, 4 and 6 of a trim, of a sound state.
-pub fn trim_verdict(h: Head, ext: &[u32], blk: &[u32], spare: &[u32], number: u64, l: u32, n: u32) -> Verdict
+pub fn trim_verdict(
+    h: Head,
+    ext: &[u32],
+    blk: &[u32],
+    spare: &[u32],
+    number: u64,
+    l: u32,
+    n: u32,
+) -> Verdict
     requires { ⌜ Shaped (lent h (now ext) (now blk) (now spare)) × Sane (lent h (now ext) (now blk) (now spare)) ⌝ }
     ensures { λ v. ⌜ told v ≡ trimRefusal number l n (deviceOf (lent h (now (ext .entry)) (now (blk .entry)) (now (spare .entry)))) ⌝ }
 {

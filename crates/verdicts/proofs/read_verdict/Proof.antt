@@ -24,10 +24,10 @@ add-count-found c =
 
 count-found-requires : tie.Need-count-found-requires
 count-found-requires c κs = (
-      omega (arith, c .before .before .before .before .before .before .pre .0 .extents, c .before .before .before .before .before .before .pre .1 .few),
-      omega arith,
-      rows-sound (lent (c .before .before .before .before .before .before .args .h) (c .before .before .before .before .before .before .args .ext .now) (c .before .before .before .before .before .before .args .blk .now) (c .before .before .before .before .before .before .args .spare .now)) (c .before .before .before .before .before .before .pre .0) (c .before .before .before .before .before .before .pre .1),
-    )
+  omega (arith, c .before .before .before .before .before .before .pre .0 .extents, c .before .before .before .before .before .before .pre .1 .few),
+  omega arith,
+  rows-sound (lent (c .before .before .before .before .before .before .args .h) (c .before .before .before .before .before .before .args .ext .now) (c .before .before .before .before .before .before .args .blk .now) (c .before .before .before .before .before .before .args .spare .now)) (c .before .before .before .before .before .before .pre .0) (c .before .before .before .before .before .before .pre .1),
+)
 
 returns-2 : tie.Need-returns-2
 returns-2 c =
