@@ -122,7 +122,13 @@ fn put_slot(ext: &[u32], i: usize, pos: u32, e: u32, out: &mut [u32], k: usize) 
     let start = start_of(ext, i, pos);
     let reach = reach_of(ext, i, pos, e);
     let j = put_hole(out, k, pos, start);
-    put_piece(out, j, start, ext[at + 1] + (start - ext[at]), reach - start);
+    put_piece(
+        out,
+        j,
+        start,
+        ext[at + 1] + (start - ext[at]),
+        reach - start,
+    );
     j + 1
 }
 
