@@ -5,4 +5,3 @@ pub mod Clip
 pub mod Cutting
 pub mod Pieces
 pub mod Placing
-pub mod Lowered

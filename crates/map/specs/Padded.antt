@@ -104,51 +104,76 @@ module _ (ws : List ℕ) (u : ℕ) (h : Holds ws u) where
   back-length : (i : ℕ) → length (flat (drop i es)) ≡ 3 * (u - i)
   back-length i = flat-length (drop i es) ∙ omega (arith, length-drop i es, size)
 
-  -- as `shift_up` gives the part from slot i on back
-  pub holds-insert : (i l p c : ℕ) (ys : List ℕ) → i ≤ u → 3 * u + 3 ≤ m
-      → ys ≡ l ∷ p ∷ c ∷ take (length (midOf (3 * i) (3 * u + 3 - 3 * i) ws) - 3) (midOf (3 * i) (3 * u + 3 - 3 * i) ws)
-      → putMid (3 * i) (3 * u + 3 - 3 * i) ws ys ≡ padded m (take i es ++ extent l p c ∷ drop i es)
-  unfolding padded flat
-  holds-insert i l p c ys s f e =
-      let moved = flat (drop i es) in
-      let k : 3 * u + 3 - 3 * i ≡ length moved + 3 = omega (arith, back-length i) in
-      let r : m - 3 * u ≡ suc (suc (suc (m - 3 * u - 3))) = omega arith in
-      let rest : List ℕ = replicate (m - 3 * u - 3) 0 in
-      let tail : drop (3 * i) ws ≡ moved ++ 0 ∷ 0 ∷ 0 ∷ rest = back i s ∙ ap (λ (j : ℕ). moved ++ replicate j 0) r in
-      let mid : midOf (3 * i) (3 * u + 3 - 3 * i) ws ≡ moved ++ 0 ∷ 0 ∷ 0 ∷ [] =
-      ap₂ (λ (j : ℕ) (t : List ℕ). take j t) k tail ∙ take-append-add moved (0 ∷ 0 ∷ 0 ∷ rest) 3 in
-      let n : length (midOf (3 * i) (3 * u + 3 - 3 * i) ws) - 3 ≡ length moved = omega (arith, ap length mid, length-append moved (0 ∷ 0 ∷ 0 ∷ [])) in
-      let new : ys ≡ l ∷ p ∷ c ∷ moved =
-      e ∙ ap₂ (λ (j : ℕ) (t : List ℕ). l ∷ p ∷ c ∷ take j t) n mid ∙ ap (λ (t : List ℕ). l ∷ p ∷ c ∷ t) (take-at moved (0 ∷ 0 ∷ 0 ∷ []) (length moved) refl) in
-      let over : drop (3 * u + 3 - 3 * i) (drop (3 * i) ws) ≡ rest =
-      ap₂ (λ (j : ℕ) (t : List ℕ). drop j t) k tail ∙ drop-append-add moved (0 ∷ 0 ∷ 0 ∷ rest) 3 in
-      let count : m - 3 * u - 3 ≡ m - 3 * length (take i es ++ extent l p c ∷ drop i es) =
-      omega (arith, length-append (take i es) (extent l p c ∷ drop i es), length-take-le i es (omega (arith, size)), length-drop i es, size) in
-      ap₂ (λ (a b : List ℕ). a ++ b) (front i s) (ap₂ (λ (a b : List ℕ). a ++ b) new over)
-      ∙ sym (append-assoc (flat (take i es)) (l ∷ p ∷ c ∷ moved) rest)
-      ∙ ap₂ (λ (a : List ℕ) (j : ℕ). a ++ replicate j 0) (sym (flat-append (take i es) (extent l p c ∷ drop i es))) count
-
-  -- as `shift_down` gives the part from slot a on back
-  pub holds-close : (a z : ℕ) (ys : List ℕ) → a ≤ z → z ≤ u
-      → ys ≡ drop (3 * (z - a)) (midOf (3 * a) (3 * u - 3 * a) ws) ++ replicate (3 * (z - a)) 0
-      → putMid (3 * a) (3 * u - 3 * a) ws ys ≡ padded m (take a es ++ drop z es)
+  laid-out : (xs ys : List Extent) (k : ℕ) → k ≡ m - 3 * length (xs ++ ys) → flat xs ++ (flat ys ++ replicate k 0) ≡ padded m (xs ++ ys)
   unfolding padded
-  holds-close a z ys s t e =
-      let moved = flat (drop a es) in
-      let gap : List ℕ = replicate (3 * (z - a)) 0 in
-      let rest : List ℕ = replicate (m - 3 * u) 0 in
-      let k : length moved ≡ 3 * u - 3 * a = omega (arith, back-length a) in
-      let tail : drop (3 * a) ws ≡ moved ++ rest = back a (omega arith) in
-      let mid : midOf (3 * a) (3 * u - 3 * a) ws ≡ moved = ap (take (3 * u - 3 * a)) tail ∙ take-at moved rest (3 * u - 3 * a) k in
-      let kept : drop (3 * (z - a)) moved ≡ flat (drop z es) =
-      let at : a + (z - a) ≡ z = omega arith in
-      ap (drop (3 * (z - a))) (sym (append-nil moved)) ∙ flat-drop (z - a) (drop a es) [] (omega (arith, length-drop a es, size)) ∙ append-nil (flat (drop (z - a) (drop a es)))
-      ∙ ap flat (drop-drop (z - a) a es ∙ ap (λ (j : ℕ). drop j es) at) in
-      let new : ys ≡ flat (drop z es) ++ gap = e ∙ ap (λ (w : List ℕ). w ++ gap) (ap (drop (3 * (z - a))) mid ∙ kept) in
-      let over : drop (3 * u - 3 * a) (drop (3 * a) ws) ≡ rest = ap (drop (3 * u - 3 * a)) tail ∙ drop-at moved rest (3 * u - 3 * a) k in
-      let count : 3 * (z - a) + (m - 3 * u) ≡ m - 3 * length (take a es ++ drop z es) =
-      omega (arith, h .fits, length-append (take a es) (drop z es), length-take-le a es (omega (arith, size)), length-drop z es, size) in
-      ap₂ (λ (x y : List ℕ). x ++ y) (front a (omega arith)) (ap₂ (λ (x y : List ℕ). x ++ y) new over)
-      ∙ ap (λ (w : List ℕ). flat (take a es) ++ w) (append-assoc (flat (drop z es)) gap rest ∙ ap (λ (w : List ℕ). flat (drop z es) ++ w) (replicate-append-replicate (3 * (z - a)) (m - 3 * u) 0))
-      ∙ sym (append-assoc (flat (take a es)) (flat (drop z es)) (replicate (3 * (z - a) + (m - 3 * u)) 0))
-      ∙ ap₂ (λ (w : List ℕ) (j : ℕ). w ++ replicate j 0) (sym (flat-append (take a es) (drop z es))) count
+  laid-out xs ys k e =
+      sym (append-assoc (flat xs) (flat ys) (replicate k 0))
+      ∙ ap₂ (λ (w : List ℕ) (j : ℕ). w ++ replicate j 0) (sym (flat-append xs ys)) e
+
+  -- one slot put in at i
+  module _ (i l p c : ℕ) (s : i ≤ u) (f : 3 * u + 3 ≤ m) where
+    abbrev moved : List ℕ
+    moved = flat (drop i es)
+
+    abbrev rest : List ℕ
+    rest = replicate (m - 3 * u - 3) 0
+
+    tail : drop (3 * i) ws ≡ moved ++ 0 ∷ 0 ∷ 0 ∷ rest
+    tail = let r : m - 3 * u ≡ suc (suc (suc (m - 3 * u - 3))) = omega arith in back i s ∙ ap (λ (j : ℕ). moved ++ replicate j 0) r
+
+    up-to : 3 * u + 3 - 3 * i ≡ length moved + 3
+    up-to = omega (arith, back-length i)
+
+    lent : midOf (3 * i) (3 * u + 3 - 3 * i) ws ≡ moved ++ 0 ∷ 0 ∷ 0 ∷ []
+    lent = ap₂ (λ (j : ℕ) (t : List ℕ). take j t) up-to tail ∙ take-append-add moved (0 ∷ 0 ∷ 0 ∷ rest) 3
+
+    behind : drop (3 * u + 3 - 3 * i) (drop (3 * i) ws) ≡ rest
+    behind = ap₂ (λ (j : ℕ) (t : List ℕ). drop j t) up-to tail ∙ drop-append-add moved (0 ∷ 0 ∷ 0 ∷ rest) 3
+
+    one-more : m - 3 * u - 3 ≡ m - 3 * length (take i es ++ extent l p c ∷ drop i es)
+    one-more = omega (arith, length-append (take i es) (extent l p c ∷ drop i es), length-take-le i es (omega (arith, size)), length-drop i es, size)
+
+    -- as `shift_up` gives the part from there on back
+    pub holds-insert : (ys : List ℕ) → ys ≡ l ∷ p ∷ c ∷ take (length (midOf (3 * i) (3 * u + 3 - 3 * i) ws) - 3) (midOf (3 * i) (3 * u + 3 - 3 * i) ws)
+        → putMid (3 * i) (3 * u + 3 - 3 * i) ws ys ≡ padded m (take i es ++ extent l p c ∷ drop i es)
+    unfolding flat
+    holds-insert ys e =
+        let n : length (midOf (3 * i) (3 * u + 3 - 3 * i) ws) - 3 ≡ length moved = omega (arith, ap length lent, length-append moved (0 ∷ 0 ∷ 0 ∷ [])) in
+        let new : ys ≡ l ∷ p ∷ c ∷ moved =
+        e ∙ ap₂ (λ (j : ℕ) (t : List ℕ). l ∷ p ∷ c ∷ take j t) n lent
+        ∙ ap (λ (t : List ℕ). l ∷ p ∷ c ∷ t) (take-at moved (0 ∷ 0 ∷ 0 ∷ []) (length moved) refl) in
+        ap₂ (λ (a b : List ℕ). a ++ b) (front i s) (ap₂ (λ (a b : List ℕ). a ++ b) new behind)
+        ∙ laid-out (take i es) (extent l p c ∷ drop i es) (m - 3 * u - 3) one-more
+
+  -- the slots from a up to z taken out
+  module _ (a z : ℕ) (s : a ≤ z) (t : z ≤ u) where
+    all : length (flat (drop a es)) ≡ 3 * u - 3 * a
+    all = omega (arith, back-length a)
+
+    lent-down : midOf (3 * a) (3 * u - 3 * a) ws ≡ flat (drop a es)
+    lent-down = ap (take (3 * u - 3 * a)) (back a (omega arith)) ∙ take-at (flat (drop a es)) (replicate (m - 3 * u) 0) (3 * u - 3 * a) all
+
+    behind-down : drop (3 * u - 3 * a) (drop (3 * a) ws) ≡ replicate (m - 3 * u) 0
+    behind-down = ap (drop (3 * u - 3 * a)) (back a (omega arith)) ∙ drop-at (flat (drop a es)) (replicate (m - 3 * u) 0) (3 * u - 3 * a) all
+
+    kept : drop (3 * (z - a)) (flat (drop a es)) ≡ flat (drop z es)
+    kept =
+        let at : a + (z - a) ≡ z = omega arith in
+        ap (drop (3 * (z - a))) (sym (append-nil (flat (drop a es))))
+        ∙ flat-drop (z - a) (drop a es) [] (omega (arith, length-drop a es, size))
+        ∙ append-nil (flat (drop (z - a) (drop a es)))
+        ∙ ap flat (drop-drop (z - a) a es ∙ ap (λ (j : ℕ). drop j es) at)
+
+    fewer : 3 * (z - a) + (m - 3 * u) ≡ m - 3 * length (take a es ++ drop z es)
+    fewer = omega (arith, h .fits, length-append (take a es) (drop z es), length-take-le a es (omega (arith, size)), length-drop z es, size)
+
+    -- as `shift_down` gives the part from a on back
+    pub holds-close : (ys : List ℕ) → ys ≡ drop (3 * (z - a)) (midOf (3 * a) (3 * u - 3 * a) ws) ++ replicate (3 * (z - a)) 0
+        → putMid (3 * a) (3 * u - 3 * a) ws ys ≡ padded m (take a es ++ drop z es)
+    holds-close ys e =
+        let gap : List ℕ = replicate (3 * (z - a)) 0 in
+        let new : ys ≡ flat (drop z es) ++ gap = e ∙ ap (λ (w : List ℕ). drop (3 * (z - a)) w ++ gap) lent-down ∙ ap (λ (w : List ℕ). w ++ gap) kept in
+        ap₂ (λ (x y : List ℕ). x ++ y) (front a (omega arith)) (ap₂ (λ (x y : List ℕ). x ++ y) new behind-down
+        ∙ append-assoc (flat (drop z es)) gap (replicate (m - 3 * u) 0)
+        ∙ ap (λ (w : List ℕ). flat (drop z es) ++ w) (replicate-append-replicate (3 * (z - a)) (m - 3 * u) 0))
+        ∙ laid-out (take a es) (drop z es) (3 * (z - a) + (m - 3 * u)) fewer

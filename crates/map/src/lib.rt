@@ -1,21 +1,18 @@
-// The extents of a state, three words a slot and zeros behind them: where a range meets them, what a cut and a write make of them, and
-// what the blocks lose by it. What stands in the slots in use is sound where a contract asks for rows; every function leaves it so.
+// The extents of a state, three words a slot and zeros behind them: where a range meets them, and what a cut and a write make of them in
+// place. `Holds` says that words are of this form; each function that changes them leaves them so.
 ghost use mathlib.Core.Path.{_≡_};
-ghost use Prim.Native.Nat.{ℕ, _+_, _-_, _*_, _/_, _<_, _≤_, _^_, min, max};
-ghost use mathlib.Core.List.{[], _∷_, _++_};
+ghost use Prim.Native.Nat.{ℕ, _+_, _-_, _*_, _<_, _≤_, _^_};
+ghost use mathlib.Core.List.{_∷_, _++_};
 ghost use lib.ListN.{length, take, drop, set};
 ghost use Rattle.rules.specs.Extents.{extent, end, slot, slots};
 ghost use Rattle.laws.specs.Counts.{startsBefore, endsAfter};
-ghost use Rattle.rules.specs.Blocks.{stride, validWord};
 ghost use Rattle.laws.specs.Cut.{cut};
-ghost use Rattle.laws.specs.Tallies.{overlap};
 ghost use Rattle.map.specs.Sound.{Piece};
 ghost use Rattle.map.specs.Around.{joinsBefore};
 ghost use Rattle.map.specs.Padded.{padded, Holds, Becomes};
 ghost use Rattle.map.specs.Clip.{clipRight, clipLeft, splitAt};
 ghost use Rattle.map.specs.Cutting.{Cuttable};
 ghost use Rattle.map.specs.Pieces.{spliced, lengthened, putIn, Puttable};
-ghost use Rattle.map.specs.Lowered.{Lowered, Lowerable};
 
 // Where slot i ends, as a whole number.
 pub fn end_of(ext: &[u32], i: usize) -> u64
@@ -230,65 +227,4 @@ pub fn put_pieces(
         return splice(ext, used, before, new, 1, k);
     }
     splice(ext, used, before, new, 0, k)
-}
-
-// ---- what the blocks lose
-
-fn later(a: u32, b: u32) -> u32
-    ensures { λ r. ⌜ r ≡ max a b ⌝ }
-{
-    if a < b {
-        return b;
-    }
-    a
-}
-
-fn sooner(a: u64, b: u32) -> u32
-    ensures { λ r. ⌜ r ≡ min a b ⌝ }
-{
-    if a < (b as u64) {
-        return a as u32;
-    }
-    b
-}
-
-// How many pages of slot i lie from l up to e.
-fn overlap_of(ext: &[u32], i: usize, l: u32, e: u32) -> u32
-    requires { ⌜ 3 * i + 2 < length (now ext) ⌝ }
-    ensures { λ r. ⌜ r ≡ overlap (slot (now (ext .entry)) i) l e ⌝ }
-{
-    let at = 3 * i;
-    let start = later(ext[at], l);
-    let stop = sooner(end_of(ext, i), e);
-    if stop <= start {
-        return 0;
-    }
-    stop - start
-}
-
-// The block of slot i loses the slot's pages from l up to e.
-fn lower_slot(ext: &[u32], i: usize, pages: u32, l: u32, e: u32, blk: &mut [u32])
-    requires { ⌜ (3 * i + 2 < length (now ext)) × (0 < pages) × (stride * (slot (now ext) i .physical / pages) + 1 < length (now blk)) × (overlap (slot (now ext) i) l e ≤ validWord (now blk) (slot (now ext) i .physical / pages)) ⌝ }
-    ensures { λ _. ⌜ Lowered pages l e (slot (now (ext .entry)) i ∷ []) (now (blk .entry)) (now (blk .exit)) ⌝ }
-{
-    let gone = overlap_of(ext, i, l, e);
-    if gone < 1 {
-        return;
-    }
-    let at = 3 * i;
-    let b = (ext[at + 1] / pages) as usize;
-    let valid = words::valid_of(blk, b);
-    words::put_valid(blk, b, valid - gone);
-}
-
-// Each block loses the pages that extents in use have in it from l up to e.
-pub fn lower(ext: &[u32], used: usize, pages: u32, l: u32, e: u32, blk: &mut [u32])
-    requires { ⌜ Lowerable (now ext) used pages l e (now blk) ⌝ }
-    ensures { λ _. ⌜ Lowered pages l e (slots (now (ext .entry)) 0 used) (now (blk .entry)) (now (blk .exit)) ⌝ }
-{
-    let mut i: usize = 0;
-    while i < used {
-        lower_slot(ext, i, pages, l, e, blk);
-        i += 1;
-    }
 }

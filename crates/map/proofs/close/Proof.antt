@@ -36,7 +36,7 @@ same-length : tie.Need-same-length
 same-length c = search needs
 
 returns : tie.Need-returns
-returns c = holds-close (c .before .before .before .before .before .args .ext .now) (c .before .before .before .before .before .args .used) (c .before .before .before .before .before .pre .0) (c .before .before .before .before .before .args .a) (c .before .before .before .before .before .args .z) _ (omega arith) (omega arith) (c .before .before .shift-down .ensures)
+returns c = holds-close (c .before .before .before .before .before .args .ext .now) (c .before .before .before .before .before .args .used) (c .before .before .before .before .before .pre .0) (c .before .before .before .before .before .args .a) (c .before .before .before .before .before .args .z) (omega arith) (omega arith) _ (c .before .before .shift-down .ensures)
 
 pub close-spec : {M : Type 1} → statement M
 close-spec =

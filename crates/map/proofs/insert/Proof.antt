@@ -33,7 +33,7 @@ same-length : tie.Need-same-length
 same-length c = search needs
 
 returns : tie.Need-returns
-returns c = holds-insert (c .before .before .before .before .before .args .ext .now) (c .before .before .before .before .before .args .used) (c .before .before .before .before .before .pre .0) (c .before .before .before .before .before .args .i) _ _ _ _ (omega arith) (omega arith) (c .before .before .shift-up .ensures)
+returns c = holds-insert (c .before .before .before .before .before .args .ext .now) (c .before .before .before .before .before .args .used) (c .before .before .before .before .before .pre .0) (c .before .before .before .before .before .args .i) _ _ _ (omega arith) (omega arith) _ (c .before .before .shift-up .ensures)
 
 pub insert-spec : {M : Type 1} → statement M
 insert-spec =

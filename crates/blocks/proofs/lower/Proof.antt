@@ -2,11 +2,11 @@
 use Prim.Native.Nat.{_-_, _≤_}
 use mathlib.Core.Path.{_≡_}
 use Rattle.rules.specs.Extents.{slots}
-use Rattle.map.specs.Lowered.{Lowered, lowered-start, lowered-more, lowered-enough}
+use Rattle.blocks.specs.Lowered.{Lowered, lowered-start, lowered-more, lowered-enough}
 use borrow.Author.Needs.{needs}
 use native.Mathlib.Omega.{arith}
-use Rattle.map.proofs.lower.Statement.{statement}
-use Rattle.map.proofs.lower.Tie as tie
+use Rattle.blocks.proofs.lower.Statement.{statement}
+use Rattle.blocks.proofs.lower.Tie as tie
 
 abbrev Inv-loop : tie.InvT-loop
 Inv-loop ext used pages l e blk₀ i₀ blk i = (i ≤ used) × Lowered pages l e (slots ext 0 i) blk₀ blk

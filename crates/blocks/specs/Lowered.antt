@@ -1,19 +1,20 @@
 -- The valid counts of the blocks without the pages of a range: each extent takes from its block what it has there.
 use Prim.Native.Nat.{ℕ, zero, suc, _+_, _-_, _*_, _/_, _≤_, _<_, min, max}
 use mathlib.Core.Path.{_≡_, refl, sym, ap, _∙_}
-use mathlib.Core.Bool.{cond}
 use mathlib.Core.List.{List, [], _∷_}
 use mathlib.Core.Logic.{by-cases}
 use native.Mathlib.Omega.{arith}
 use native.Mathlib.Decide.{ℕ-discrete}
 use native.Mathlib.Numerals.{add-one}
 use borrow.Author.Tests.{eq-eqb, ne-eqb}
+use lib.Dec.{eqb}
 use lib.ListN.{length, getD, set, length-set}
 use lib.Seq.{getD-set-same, getD-set-other}
 use Rattle.rules.specs.Counting.{sum}
 use Rattle.rules.specs.Blocks.{stride, fillWord, validWord}
 use Rattle.rules.specs.Extents.{end, slot, slots}
 use Rattle.rules.specs.declared.Extent.{Extent}
+use Rattle.laws.specs.Bools.{cases}
 use Rattle.laws.specs.Tallies.{overlap, inRange, total, total-slots}
 
 -- what the words of the blocks become, for N = n, without the pages of extents from l up to e
@@ -101,3 +102,14 @@ module _ (n l e : ℕ) (ws : List ℕ) where
       let k : i + 1 + (u - (i + 1)) ≡ u = omega arith in
       let most : total (inRange n b l e) (slots ws 0 (i + 1)) ≤ total (inRange n b l e) (slots ws 0 u) = rw k at (up-to b (i + 1) (u - (i + 1))) in
       omega (arith, p .enough b, h .valids b, one-more b i, in-block n b l e (slot ws i) refl)
+
+-- ---- what a block holds is enough for a part of the lines
+
+range-le : (n b l e hi : ℕ) (x : Extent) → e ≤ hi → inRange n b l e x ≤ inRange n b 0 hi x
+unfolding inRange overlap
+range-le n b l e hi x h = cases (eqb (x .physical / n) b) (λ g. rw g (omega arith)) (λ g. rw g (omega arith))
+
+pub total-enough : (n b l e hi : ℕ) (es : List Extent) → e ≤ hi → total (inRange n b l e) es ≤ total (inRange n b 0 hi) es
+unfolding total
+total-enough n b l e hi [] h = omega arith
+total-enough n b l e hi (x ∷ xs) h = omega (arith, range-le n b l e hi x h, total-enough n b l e hi xs h)

@@ -1,11 +1,11 @@
 -- Nothing, or one valid count stored.
 use mathlib.Core.Path.{refl}
 use Rattle.rules.specs.Extents.{slot}
-use Rattle.map.specs.Lowered.{lowered-same, lowered-set}
+use Rattle.blocks.specs.Lowered.{lowered-same, lowered-set}
 use native.Mathlib.Omega.{arith}
 use borrow.Author.Needs.{needs}
-use Rattle.map.proofs.lower_slot.Statement.{statement}
-use Rattle.map.proofs.lower_slot.Tie as tie
+use Rattle.blocks.proofs.lower_slot.Statement.{statement}
+use Rattle.blocks.proofs.lower_slot.Tie as tie
 
 overlap-of-requires : tie.Need-overlap-of-requires
 overlap-of-requires c κs = search needs

@@ -2,8 +2,8 @@
 use Rattle.laws.specs.Tallies.{overlap}
 use native.Mathlib.Omega.{arith}
 use borrow.Author.Needs.{needs}
-use Rattle.map.proofs.overlap_of.Statement.{statement}
-use Rattle.map.proofs.overlap_of.Tie as tie
+use Rattle.blocks.proofs.overlap_of.Statement.{statement}
+use Rattle.blocks.proofs.overlap_of.Tie as tie
 
 mul-at : tie.Need-mul-at
 mul-at c = search needs
