@@ -14,7 +14,7 @@ use Rattle.rules.specs.Placement.{pieces}
 use Rattle.rules.specs.Reclaim.{sources, victim}
 use Rattle.rules.specs.Read.{found}
 use Rattle.rules.specs.Answers.{Outcome, number}
-use Rattle.rules.specs.Calls.{Call, writeRefusal, readRefusal, reclaimRefusal, refusal, counts, leaves, lists, buffer, over, refused, verdict, acceptedOn, call}
+use Rattle.rules.specs.Calls.{Call, writeRefusal, trimRefusal, readRefusal, reclaimRefusal, refusal, counts, leaves, lists, buffer, over, refused, verdict, acceptedOn, call}
 use Rattle.rules.specs.declared.Refusal.{Refusal}
 use Rattle.laws.specs.Sane.{Shaped, Sane}
 use Rattle.laws.specs.Shapes.{shaped-true}
@@ -32,6 +32,10 @@ read-room l n out d = rw (length-replicate {A = ℕ} (length out) 0)
 pub write-room : (k l n : ℕ) (out : List ℕ) (d : Device) → writeRefusal k l n (roomed (length out)) d ≡ refusal (Call.write k l n out) d
 unfolding refusal writeRefusal
 write-room k l n out d = rw (length-replicate {A = ℕ} (length out) 0)
+
+pub trim-refusal : (k l n : ℕ) (d : Device) → trimRefusal k l n d ≡ refusal (Call.trim k l n) d
+unfolding refusal
+trim-refusal k l n d = refl
 
 pub reclaim-room : (out : List ℕ) (d : Device) → reclaimRefusal (roomed (length out)) d ≡ refusal (Call.reclaim out) d
 unfolding refusal reclaimRefusal

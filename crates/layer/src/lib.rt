@@ -14,6 +14,7 @@ ghost use Rattle.rules.specs.Answers.{outcome, done, listed, counted};
 ghost use Rattle.rules.specs.Calls.{Call, call, fresh};
 ghost use Rattle.layer.specs.Accepts.{Ready};
 ghost use Rattle.layer.specs.Reads.{ListedPieces};
+ghost use Rattle.layer.specs.Trims.{Cut, Holed};
 
 pub fn fresh(
     blocks: u32,
@@ -99,4 +100,32 @@ pub fn read(
     }
     let k = list_pieces(h, ext, blk, spare, l, n, out);
     Listed::Accepted(k, h)
+}
+
+// The range becomes holes: a trim that nothing refuses, and the first part of a write. The extents in use afterwards.
+fn cut_range(h: Head, ext: &mut [u32], blk: &mut [u32], spare: &[u32], l: u32, n: u32) -> u32
+    requires { ⌜ Cut l n (lent h (now ext) (now blk) (now spare)) ⌝ }
+    ensures { λ u. ⌜ Holed l n (lent h (now (ext .entry)) (now (blk .entry)) (now (spare .entry))) u (now (ext .exit)) (now (blk .exit)) ⌝ }
+{
+    let used = h.used as usize;
+    blocks::lower(ext, used, h.pages, l, l + n, blk);
+    map::cut_out(ext, used, l, l + n) as u32
+}
+
+pub fn trim(h: Head, ext: &mut [u32], blk: &mut [u32], spare: &[u32], number: u64, l: u32, n: u32) -> Done
+    ensures { λ r. ⌜ outcome (done r) (now (ext .exit)) (now (blk .exit)) (now (spare .entry)) [] ≡ call (Call.trim number l n) (lent h (now (ext .entry)) (now (blk .entry)) (now (spare .entry))) ⌝ }
+{
+    let v = verdicts::lent_verdict(h, ext, blk, spare);
+    if let Verdict::Refused(r) = v {
+        return Done::Refused(r, h);
+    }
+    let w = verdicts::trim_verdict(h, ext, blk, spare, number, l, n);
+    if let Verdict::Refused(r) = w {
+        return Done::Refused(r, h);
+    }
+    let used = cut_range(h, ext, blk, spare, l, n);
+    let mut g = h;
+    g.used = used;
+    g.last = number;
+    Done::Accepted(g)
 }
