@@ -15,8 +15,7 @@ use Rattle.laws.specs.Shapes.{shaped-true}
 use Rattle.laws.specs.Sanes.{sound-sane}
 use Rattle.laws.specs.Kept.{device-is}
 use Rattle.verdicts.specs.Refusals.{verdict-plain, call-accepted}
-use Rattle.verdicts.specs.Report.{free-words, live-words, stale-in, stale-words}
-use Rattle.state.specs.Totals.{Filled, Totalled}
+use Rattle.state.specs.Totals.{Filled, Totalled, sane-filled, device-free, device-live, device-stale}
 use Rattle.state.specs.declared.Totals.{Totals}
 
 module _ (s : Lent) (e : (shaped s ≡ true) × (sound s ≡ true)) where
@@ -27,21 +26,15 @@ module _ (s : Lent) (e : (shaped s ≡ true) × (sound s ≡ true)) where
   sane = sound-sane s shape (e .1)
 
   pub report-filled : Filled (s .head) (s .blocks)
-  report-filled = record {
-    records = shape .blocks;
-    blocks-high = shape .sizes .b-high;
-    pages-high = shape .sizes .n-high;
-    full = sane .full;
-    valid = λ b p. omega (arith, stale-in s shape sane b p);
-  }
+  report-filled = sane-filled s shape sane
 
 module _ (s : Lent) (t : Totals) (e : (shaped s ≡ true) × (sound s ≡ true)) (w : Totalled (s .head) (s .blocks) t) where
   three : counts Call.report (deviceOf s) ≡ t .free ∷ t .live ∷ t .stale ∷ []
   unfolding counts
   three =
-      λ i. (free-words s (shape s e) (sane s e) ∙ sym (w .free)) i
-      ∷ (live-words s (shape s e) (sane s e) ∙ sym (w .live)) i
-      ∷ (stale-words s (shape s e) (sane s e) ∙ sym (w .stale)) i ∷ []
+      λ i. (device-free s (shape s e) (sane s e) ∙ sym (w .free)) i
+      ∷ (device-live s (shape s e) (sane s e) ∙ sym (w .live)) i
+      ∷ (device-stale s (shape s e) (sane s e) ∙ sym (w .stale)) i ∷ []
 
   pub report-counts : outcome (said 0 (t .free ∷ t .live ∷ t .stale ∷ []) (s .head)) (s .extents) (s .blocks) (s .spare) [] ≡ call Call.report s
   unfolding acceptedOn leaves lists over refusal

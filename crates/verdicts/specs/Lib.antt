@@ -1,5 +1,6 @@
 pub mod Refusals
 pub mod Numbered
-pub mod Report
 pub mod Reading
 pub mod Trimming
+pub mod Meeting
+pub mod Writing
