@@ -3,3 +3,4 @@ pub mod Report
 pub mod Accepts
 pub mod Reads
 pub mod Trims
+pub mod Puts

@@ -47,10 +47,9 @@ pub record Cut (l n : ℕ) (s : Lent) : Type 0 where
 abbrev pub holed : ℕ → ℕ → Lent → Device
 holed l n s = trimmed 0 l n (deviceOf s)
 
--- the words of it, and its extents in use
+-- the words of it: what is left of the extents in the first u slots, and its block records
 pub record Holed (l n : ℕ) (s : Lent) (u : ℕ) (ext blk : List ℕ) : Type 0 where
-  pub used : u ≡ length (extents (holed l n s))
-  pub extents : ext ≡ wordsOf (holed l n s) .extents
+  pub map : Becomes (length (s .extents)) (cut l (l + n) (inUse s)) ext u
   pub blocks : blk ≡ wordsOf (holed l n s) .blocks
 
 module _ (l n : ℕ) (s : Lent) (z : Cut l n s) where
@@ -155,7 +154,7 @@ module _ (l n : ℕ) (s : Lent) (z : Cut l n s) where
 
   pub holed-is : (used : ℕ) (ext blk : List ℕ) → Becomes (length (s .extents)) (cut l (l + n) (inUse s)) ext used
       → Lowered (s .head .pages) l (l + n) (inUse s) (s .blocks) blk → Holed l n s used ext blk
-  holed-is used ext blk b w = record { used = b .used ∙ ap length cut-extents; extents = cut-words ext (b .is); blocks = lowered-words blk w }
+  holed-is used ext blk b w = record { map = b; blocks = lowered-words blk w }
 
 -- ---- a trim
 
@@ -196,11 +195,11 @@ module _ (k l n : ℕ) (s : Lent) (z : Ready (Call.trim k l n) s) where
         pages = s .head .pages;
         logical = (sym (device-lines s) ∙ sym (trimmed-lines k l n (deviceOf s))) i;
         slots = s .head .slots;
-        used = w .used i;
+        used = (w .map .used ∙ ap length (cut-extents l n s trim-cut)) i;
         reserve = s .head .reserve;
         last = k;
       })
-      (w .extents i)
+      (cut-words l n s trim-cut ext (w .map .is) i)
       (w .blocks i)
       (s .spare)
 
