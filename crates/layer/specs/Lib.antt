@@ -4,3 +4,4 @@ pub mod Accepts
 pub mod Reads
 pub mod Trims
 pub mod Puts
+pub mod Writes

@@ -112,7 +112,15 @@ fn cut_range(h: Head, ext: &mut [u32], blk: &mut [u32], spare: &[u32], l: u32, n
     map::cut_out(ext, used, l, l + n) as u32
 }
 
-pub fn trim(h: Head, ext: &mut [u32], blk: &mut [u32], spare: &[u32], number: u64, l: u32, n: u32) -> Done
+pub fn trim(
+    h: Head,
+    ext: &mut [u32],
+    blk: &mut [u32],
+    spare: &[u32],
+    number: u64,
+    l: u32,
+    n: u32,
+) -> Done
     ensures { λ r. ⌜ outcome (done r) (now (ext .exit)) (now (blk .exit)) (now (spare .entry)) [] ≡ call (Call.trim number l n) (lent h (now (ext .entry)) (now (blk .entry)) (now (spare .entry))) ⌝ }
 {
     let v = verdicts::lent_verdict(h, ext, blk, spare);
@@ -128,4 +136,51 @@ pub fn trim(h: Head, ext: &mut [u32], blk: &mut [u32], spare: &[u32], number: u6
     g.used = used;
     g.last = number;
     Done::Accepted(g)
+}
+
+// A write that nothing refuses: the range is cut out, the pages are placed, and the pieces are put in.
+fn place_pages(
+    h: Head,
+    ext: &mut [u32],
+    blk: &mut [u32],
+    spare: &mut [u32],
+    number: u64,
+    l: u32,
+    n: u32,
+    out: &mut [u32],
+) -> Listed
+    requires { ⌜ Ready (Call.write number l n (now out)) (lent h (now ext) (now blk) (now spare)) ⌝ }
+    ensures { λ r. ⌜ outcome (listed r) (now (ext .exit)) (now (blk .exit)) (now (spare .exit)) (now (out .exit)) ≡ call (Call.write number l n (now (out .entry))) (lent h (now (ext .entry)) (now (blk .entry)) (now (spare .entry))) ⌝ }
+{
+    let m = verdicts::meeting_of(h, ext, blk, spare, l, n);
+    let left = cut_range(h, ext, blk, spare, l, n);
+    let k = placing::place(blk, spare, out, h.blocks, h.pages, h.reserve, l, n);
+    let used = map::put_pieces(ext, left as usize, m.before, m.joined, out, k as usize);
+    let mut g = h;
+    g.used = used as u32;
+    g.last = number;
+    Listed::Accepted(k, g)
+}
+
+pub fn write(
+    h: Head,
+    ext: &mut [u32],
+    blk: &mut [u32],
+    spare: &mut [u32],
+    number: u64,
+    l: u32,
+    n: u32,
+    out: &mut [u32],
+) -> Listed
+    ensures { λ r. ⌜ outcome (listed r) (now (ext .exit)) (now (blk .exit)) (now (spare .exit)) (now (out .exit)) ≡ call (Call.write number l n (now (out .entry))) (lent h (now (ext .entry)) (now (blk .entry)) (now (spare .entry))) ⌝ }
+{
+    let v = verdicts::lent_verdict(h, ext, blk, spare);
+    if let Verdict::Refused(r) = v {
+        return Listed::Refused(r, h);
+    }
+    let w = verdicts::write_verdict(h, ext, blk, spare, number, l, n, out.len());
+    if let Verdict::Refused(r) = w {
+        return Listed::Refused(r, h);
+    }
+    place_pages(h, ext, blk, spare, number, l, n, out)
 }
