@@ -2,3 +2,4 @@ pub mod Fresh
 pub mod Report
 pub mod Accepts
 pub mod Reads
+pub mod Reclaims

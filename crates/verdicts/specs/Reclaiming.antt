@@ -52,7 +52,7 @@ module _ (s : Lent) (h : Shaped s) (z : Sane s) where
   pub sane-records : (stride * s .head .blocks ≤ length (s .blocks)) × ((b : ℕ) → b < s .head .blocks → validWord (s .blocks) b ≤ fillWord (s .blocks) b)
   sane-records = (omega (arith, h .blocks), λ b p. omega (arith, stale-in s h z b p))
 
-  found-victim : most (s .head .blocks) (staleWord (s .blocks)) ≡ victim (deviceOf s)
+  pub found-victim : most (s .head .blocks) (staleWord (s .blocks)) ≡ victim (deviceOf s)
   found-victim =
       let inside : (b : ℕ) → b < blocks (deviceOf s) → b < s .head .blocks = λ b p. omega (arith, device-blocks s) in
       ap (λ (k : ℕ). most k (staleWord (s .blocks))) (sym (device-blocks s))
