@@ -1,20 +1,19 @@
 -- What a reclaim that nothing refuses asks of the words, lists and leaves.
-use Prim.Native.Nat.{ℕ, _+_, _*_, _%_, _≤_, _<_}
+use Prim.Native.Nat.{ℕ, _+_, _*_, _≤_, _<_}
 use mathlib.Core.Path.{_≡_, refl, sym, ap, _∙_}
 use mathlib.Core.List.{List, [], _∷_}
 use native.Mathlib.Omega.{arith}
 use lib.ListN.{length, getD, take}
 use Rattle.rules.specs.Counting.{count, most}
-use Rattle.rules.specs.Extents.{none, slot}
+use Rattle.rules.specs.Extents.{none}
 use Rattle.rules.specs.Blocks.{stride, fillWord, validWord, records}
 use Rattle.rules.specs.Lent.{Lent, lent, inUse}
-use Rattle.rules.specs.Device.{Device, blocks, valid, extents, deviceOf, headOf, wordsOf}
+use Rattle.rules.specs.Device.{blocks, valid, extents, deviceOf, headOf, wordsOf}
 use Rattle.rules.specs.Reclaim.{victim, sources, moved, reclaimedAt, reclaimed}
 use Rattle.rules.specs.Answers.{said, outcome}
 use Rattle.rules.specs.Calls.{Call, counts, leaves, lists, over, call}
 use Rattle.rules.specs.declared.Head.{Head}
 use Rattle.rules.specs.declared.Extent.{Extent}
-use Rattle.laws.specs.Sane.{Shaped, Sane}
 use Rattle.laws.specs.Device.{Sound}
 use Rattle.laws.specs.Shapes.{lines-pages, pages-high}
 use Rattle.laws.specs.States.{device-blocks, device-lines, device-words, extents-in-use, sane-good}

@@ -10,7 +10,7 @@ use Rattle.rules.specs.Counting.{most}
 use Rattle.rules.specs.Extents.{none, slot}
 use Rattle.rules.specs.Blocks.{stride, fillWord, validWord}
 use Rattle.rules.specs.Lent.{Lent, inUse, validOf}
-use Rattle.rules.specs.Device.{Device, blocks, stale, extents, deviceOf}
+use Rattle.rules.specs.Device.{blocks, stale, extents, deviceOf}
 use Rattle.rules.specs.Reclaim.{victim, sources, reclaimedAt, reclaimed}
 use Rattle.rules.specs.Answers.{number, refuse}
 use Rattle.rules.specs.Calls.{tooMany, reclaimRefusal}
@@ -67,13 +67,13 @@ module _ (s : Lent) (h : Shaped s) (z : Sane s) where
     reclaim-nothing e = sym (refuse-here (eqb (stale (deviceOf s)) 0) Refusal.NothingStale _ (eq-eqb (stale (deviceOf s)) 0 (sym is-stale ∙ e)))
 
     module _ (e : t .stale ≡ 0 → ⊥) (v : ℕ) (f : v ≡ most (s .head .blocks) (staleWord (s .blocks))) where
-      pub victim-is : v ≡ victim (deviceOf s)
+      victim-is : v ≡ victim (deviceOf s)
       victim-is = f ∙ found-victim
 
       chosen : Chosen (deviceOf s) (victim (deviceOf s))
       chosen = victim-chosen (deviceOf s) (sane-good s h z .sound) (omega (arith, is-stale))
 
-      pub victim-inside : v < s .head .blocks
+      victim-inside : v < s .head .blocks
       victim-inside = omega (arith, chosen .inside, victim-is, device-blocks s)
 
       pub victim-record : stride * v + 1 < length (s .blocks)
