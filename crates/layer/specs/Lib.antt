@@ -5,3 +5,4 @@ pub mod Reads
 pub mod Trims
 pub mod Puts
 pub mod Writes
+pub mod Reclaims

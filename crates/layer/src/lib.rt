@@ -184,3 +184,49 @@ pub fn write(
     }
     place_pages(h, ext, blk, spare, number, l, n, out)
 }
+
+// A reclaim that nothing refuses: the victim's mapped pages listed, and everything about them moved into the reserve.
+fn empty_victim(
+    h: Head,
+    ext: &mut [u32],
+    blk: &mut [u32],
+    spare: &mut [u32],
+    out: &mut [u32],
+) -> Listed
+    requires { ⌜ Ready (Call.reclaim (now out)) (lent h (now ext) (now blk) (now spare)) ⌝ }
+    ensures { λ r. ⌜ outcome (listed r) (now (ext .exit)) (now (blk .exit)) (now (spare .exit)) (now (out .exit)) ≡ call (Call.reclaim (now (out .entry))) (lent h (now (ext .entry)) (now (blk .entry)) (now (spare .entry))) ⌝ }
+{
+    let used = h.used as usize;
+    let n = h.pages;
+    let v = reclaiming::victim_of(blk, h.blocks);
+    let ranks = reclaiming::ranks_of(ext, used, n, v);
+    let k = ranks[n as usize];
+    reclaiming::list_sources(&ranks, n, v, out);
+    reclaiming::move_labels(spare, out, k as usize, n, h.reserve, v);
+    reclaiming::move_blocks(blk, h.reserve, v);
+    let nodes = reclaiming::move_map(ext, used, n, v, h.reserve, &ranks);
+    let mut after = h;
+    after.used = nodes as u32;
+    after.reserve = v;
+    Listed::Accepted(k, after)
+}
+
+pub fn reclaim(
+    h: Head,
+    ext: &mut [u32],
+    blk: &mut [u32],
+    spare: &mut [u32],
+    out: &mut [u32],
+) -> Listed
+    ensures { λ r. ⌜ outcome (listed r) (now (ext .exit)) (now (blk .exit)) (now (spare .exit)) (now (out .exit)) ≡ call (Call.reclaim (now (out .entry))) (lent h (now (ext .entry)) (now (blk .entry)) (now (spare .entry))) ⌝ }
+{
+    let v = verdicts::lent_verdict(h, ext, blk, spare);
+    if let Verdict::Refused(r) = v {
+        return Listed::Refused(r, h);
+    }
+    let w = verdicts::reclaim_verdict(h, ext, blk, spare, out.len());
+    if let Verdict::Refused(r) = w {
+        return Listed::Refused(r, h);
+    }
+    empty_victim(h, ext, blk, spare, out)
+}

@@ -4,3 +4,4 @@ pub mod Reading
 pub mod Trimming
 pub mod Meeting
 pub mod Writing
+pub mod Reclaiming

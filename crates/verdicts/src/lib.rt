@@ -3,16 +3,19 @@ use rules::Head;
 use rules::Refusal;
 ghost use mathlib.Core.Path.{_≡_};
 ghost use mathlib.Core.Bool.{not, _||_};
-ghost use Prim.Native.Nat.{ℕ, _+_, _-_, _*_, _<_, _≤_};
-ghost use mathlib.Core.List.{[]};
-ghost use lib.ListN.{length, replicate};
+ghost use Prim.Native.Nat.{_+_};
+ghost use lib.ListN.{length};
 ghost use lib.Dec.{eqb, ltb};
+ghost use Rattle.rules.specs.Extents.{slots};
 ghost use Rattle.rules.specs.Lent.{lent};
-ghost use Rattle.rules.specs.Answers.{refuse};
-ghost use Rattle.rules.specs.Calls.{Call, verdict};
+ghost use Rattle.rules.specs.Device.{deviceOf};
+ghost use Rattle.rules.specs.Calls.{readRefusal, trimRefusal, writeRefusal, reclaimRefusal};
+ghost use Rattle.laws.specs.Sane.{Shaped, Sane};
+ghost use Rattle.reclaiming.specs.Remapped.{remapped};
 ghost use Rattle.verdicts.specs.Refusals.{told, lentRefusal, roomed};
 ghost use Rattle.verdicts.specs.Numbered.{numberRefusal};
 ghost use Rattle.verdicts.specs.Meeting.{Writable, Meets, piecesOf, nodesOf};
+ghost use Rattle.verdicts.specs.Reclaiming.{Walkable};
 
 pub enum Verdict {
     Accepted,
@@ -41,13 +44,6 @@ pub fn in_range(top: u32, l: u32, n: u32) -> bool
     }
     (l as u64) + (n as u64) <= (top as u64)
 }
-
-ghost use Rattle.rules.specs.Shape.{shape};
-ghost use mathlib.Core.Bool.{true};
-ghost use Rattle.rules.specs.Sound.{sound};
-ghost use Rattle.rules.specs.Device.{deviceOf};
-ghost use Rattle.rules.specs.Calls.{readRefusal, trimRefusal, writeRefusal, reclaimRefusal};
-ghost use Rattle.laws.specs.Sane.{Shaped, Sane};
 
 // 3 and 7, of a sound state.
 pub fn read_verdict(
@@ -177,6 +173,36 @@ pub fn write_verdict(
         return Verdict::Refused(Refusal::NoNodes);
     }
     if room / 3 < (k as usize) {
+        return Verdict::Refused(Refusal::OutShort);
+    }
+    Verdict::Accepted
+}
+
+// How many extents the map has after block v is emptied into the reserve.
+pub fn nodes_after_reclaim(h: Head, ext: &[u32], v: u32) -> usize
+    requires { ⌜ Walkable h (now ext) ⌝ }
+    ensures { λ k. ⌜ k ≡ length (remapped (h .pages) v (h .reserve) (slots (now (ext .entry)) 0 (h .used))) ⌝ }
+{
+    let used = h.used as usize;
+    let ranks = reclaiming::ranks_of(ext, used, h.pages, v);
+    reclaiming::joined_of(ext, used, h.pages, v, h.reserve, &ranks)
+}
+
+// 8, 6 and 7 of a reclaim, of a sound state.
+pub fn reclaim_verdict(h: Head, ext: &[u32], blk: &[u32], spare: &[u32], room: usize) -> Verdict
+    requires { ⌜ Shaped (lent h (now ext) (now blk) (now spare)) × Sane (lent h (now ext) (now blk) (now spare)) ⌝ }
+    ensures { λ v. ⌜ told v ≡ reclaimRefusal (roomed room) (deviceOf (lent h (now (ext .entry)) (now (blk .entry)) (now (spare .entry)))) ⌝ }
+{
+    let totals = state::totals_of(h, blk);
+    if totals.stale == 0 {
+        return Verdict::Refused(Refusal::NothingStale);
+    }
+    let v = reclaiming::victim_of(blk, h.blocks);
+    if (h.slots as usize) < nodes_after_reclaim(h, ext, v) {
+        return Verdict::Refused(Refusal::NoNodes);
+    }
+    let copies = words::valid_of(blk, v as usize);
+    if room < copies as usize {
         return Verdict::Refused(Refusal::OutShort);
     }
     Verdict::Accepted
