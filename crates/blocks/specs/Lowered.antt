@@ -1,5 +1,5 @@
 -- The valid counts of the blocks without the pages of a range: each extent takes from its block what it has there.
-use Prim.Native.Nat.{ℕ, zero, suc, _+_, _-_, _*_, _/_, _≤_, _<_, min, max}
+use Prim.Native.Nat.{ℕ, zero, suc, _+_, _-_, _*_, _/_, _≤_, _<_}
 use mathlib.Core.Path.{_≡_, refl, sym, ap, _∙_}
 use mathlib.Core.List.{List, [], _∷_}
 use mathlib.Core.Logic.{by-cases}
@@ -8,11 +8,11 @@ use native.Mathlib.Decide.{ℕ-discrete}
 use native.Mathlib.Numerals.{add-one}
 use borrow.Author.Tests.{eq-eqb, ne-eqb}
 use lib.Dec.{eqb}
-use lib.ListN.{length, getD, set, length-set}
+use lib.ListN.{length, set, length-set}
 use lib.Seq.{getD-set-same, getD-set-other}
 use Rattle.rules.specs.Counting.{sum}
 use Rattle.rules.specs.Blocks.{stride, fillWord, validWord}
-use Rattle.rules.specs.Extents.{end, slot, slots}
+use Rattle.rules.specs.Extents.{slot, slots}
 use Rattle.rules.specs.declared.Extent.{Extent}
 use Rattle.laws.specs.Bools.{cases}
 use Rattle.laws.specs.Tallies.{overlap, inRange, total, total-slots}

@@ -6,9 +6,9 @@ use native.Mathlib.Omega.{arith}
 use borrow.Rule.Slice.PartMut.{midOf, putMid}
 use lib.ListN.{length, getD, take, drop, set, replicate, length-append, length-drop, length-replicate, length-set, getD-replicate, take-append-drop, replicate-append-replicate}
 use lib.Seq.{sets, ext-getD, getD-drop, take-at, drop-at, drop-drop, take-append-add, drop-append-add, length-take-le}
-use Rattle.rules.specs.Extents.{extent, slot, slots, flat}
+use Rattle.rules.specs.Extents.{extent, slots, flat}
 use Rattle.rules.specs.declared.Extent.{Extent}
-use Rattle.laws.specs.Slots.{flat-length, flat-append, flat-take, flat-drop, slots-flat, flat-slots, slots-at, slots-length}
+use Rattle.laws.specs.Slots.{flat-length, flat-append, flat-take, flat-drop, slots-flat, flat-slots, slots-length}
 
 -- m words
 unfoldable pub padded : ℕ → List Extent → List ℕ

@@ -3,7 +3,7 @@ use Prim.Native.Nat.{ℕ, suc, _+_, _-_, _*_, _≤_, _<_}
 use mathlib.Core.Path.{_≡_, refl, sym, ap, ap₂, _∙_}
 use mathlib.Core.List.{List, [], _∷_, _++_, append-nil}
 use native.Mathlib.Omega.{arith}
-use lib.ListN.{length, take, drop, set, length-append, length-drop, take-append-drop}
+use lib.ListN.{length, take, drop, set, length-append, length-drop}
 use lib.Seq.{sets, length-sets, sets-eq, take-add, drop-drop, take-at, take-all, drop-at, length-take-le}
 use Rattle.rules.specs.Extents.{extent, end, flat, slot, slots}
 use Rattle.rules.specs.Read.{hole}
@@ -11,7 +11,7 @@ use Rattle.rules.specs.Calls.{over}
 use Rattle.rules.specs.declared.Extent.{Extent}
 use Rattle.laws.specs.Slots.{flat-length, flat-append}
 use Rattle.map.specs.Sound.{Sound}
-use Rattle.reading.specs.Walk.{between, starts, reaches, clipped, walk-start, walk-end, walk-over, walk-more, tells, tells-none, tells-some, hole-append, no-hole, some-hole}
+use Rattle.reading.specs.Walk.{between, starts, reaches, clipped, walk-start, walk-more, tells, tells-some, hole-append}
 
 -- in the buffer's slots from k on
 unfoldable pub laid : ℕ → List Extent → List ℕ → List ℕ

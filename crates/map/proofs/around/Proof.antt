@@ -1,11 +1,11 @@
 use Rattle.map.specs.Around.{starts-le, ends-le}
 -- One walk: each slot is counted on either side or not.
 use Rattle.map.specs.Around.{starts-start, ends-start, starts-in, starts-out, ends-in, ends-out}
-use Prim.Native.Nat.{_+_, _-_, _≤_}
-use mathlib.Core.Path.{_≡_, refl}
+use Prim.Native.Nat.{_-_, _≤_}
+use mathlib.Core.Path.{_≡_}
 use mathlib.Core.Logic.{⊎-elim}
 use Rattle.rules.specs.Extents.{slots}
-use Rattle.laws.specs.Counts.{startsBefore, endsAfter, tally-start, starts-more, ends-more}
+use Rattle.laws.specs.Counts.{startsBefore, endsAfter}
 use borrow.Author.Needs.{needs}
 use native.Mathlib.Omega.{arith}
 use Rattle.map.proofs.around.Statement.{statement}

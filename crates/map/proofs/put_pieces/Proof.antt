@@ -1,6 +1,5 @@
 -- The first piece makes the extent in front of it longer, or comes in with the others.
 use Rattle.map.specs.Pieces.{apart-ready, apart-done, joined-ready, joined-next, joined-done}
-use native.Mathlib.Omega.{arith}
 use borrow.Author.Needs.{needs}
 use Rattle.map.proofs.put_pieces.Statement.{statement}
 use Rattle.map.proofs.put_pieces.Tie as tie

@@ -1,7 +1,7 @@
 use Rattle.reading.specs.Walk.{count-end, hole-le}
 -- The walk: what is counted and what is still to come are the whole.
 use Prim.Native.Nat.{_+_, _-_, _*_, _≤_}
-use mathlib.Core.Path.{_≡_, refl, ap}
+use mathlib.Core.Path.{_≡_}
 use lib.ListN.{length}
 use Rattle.rules.specs.Extents.{slots, slot}
 use Rattle.reading.specs.Walk.{between, reaches, tells-le, count-start, count-more, walk-end, walk-over}

@@ -1,5 +1,5 @@
 -- The walk: what is laid out and what is still to come are the whole.
-use Prim.Native.Nat.{_+_, _-_, _*_, _≤_}
+use Prim.Native.Nat.{_-_, _≤_}
 use mathlib.Core.Path.{_≡_, refl}
 use lib.ListN.{length}
 use Rattle.map.specs.Sound.{sound-piece}

@@ -1,13 +1,8 @@
 -- The hole before the piece, and the piece.
-use mathlib.Core.Path.{_≡_, ap, _∙_}
-use mathlib.Core.List.{List, [], _∷_}
-use Prim.Native.Nat.{ℕ, _+_, _-_}
-use lib.ListN.{length}
-use Rattle.rules.specs.Extents.{slot, extent}
-use Rattle.rules.specs.Read.{hole}
-use Rattle.rules.specs.declared.Extent.{Extent}
-use Rattle.reading.specs.Walk.{starts, reaches, clipped, tells-none}
-use Rattle.reading.specs.Told.{laid, Lays, lays-none, lays-tells, tells-length}
+use Prim.Native.Nat.{_-_}
+use Rattle.rules.specs.Extents.{slot}
+use Rattle.reading.specs.Walk.{tells-none}
+use Rattle.reading.specs.Told.{lays-none, lays-tells, tells-length}
 use native.Mathlib.Omega.{arith}
 use borrow.Author.Needs.{needs}
 use Rattle.reading.proofs.put_slot.Statement.{statement}
