@@ -27,4 +27,11 @@ pub mod Flash
 pub mod History
 pub mod Sane
 pub mod Host
+pub mod Shapes
+pub mod Ranked
+pub mod Sanes
+pub mod Tallies
+pub mod Records
+pub mod States
+pub mod Calls
 pub mod Until

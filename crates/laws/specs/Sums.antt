@@ -1,12 +1,13 @@
 -- Laws of sums and counts over the numbers below a bound.
 use Prim.Native.Nat.{ℕ, zero, suc, _+_, _*_, _≤_, _<_}
-use mathlib.Core.Path.{_≡_, refl, sym, ap}
-use mathlib.Core.Bool.{Bool, true, false, not}
+use mathlib.Core.Path.{_≡_, refl, sym, ap, _∙_}
+use mathlib.Core.Bool.{Bool, true, false, not, cond}
 use mathlib.Core.Logic.{by-cases}
 use native.Mathlib.Omega.{arith}
 use native.Mathlib.Decide.{ℕ-discrete}
 use native.Mathlib.Nat.{suc-mul, zero-mul}
-use Rattle.rules.specs.Counting.{one, sum, count}
+use Rattle.rules.specs.Counting.{one, sum, count, all}
+use Rattle.laws.specs.Bools.{and-split, and-join}
 
 pub sum-same : (n : ℕ) (f g : ℕ → ℕ) → ((i : ℕ) → i < n → f i ≡ g i) → sum n f ≡ sum n g
 unfolding sum
@@ -122,3 +123,22 @@ pub count-first : (n : ℕ) (t : ℕ → Bool) → count (suc n) t ≡ one (t 0)
 unfolding count
 count-first zero t = omega arith
 count-first (suc n) t = omega (arith, count-first n t)
+
+-- a test that is the same all along
+pub count-const : (n : ℕ) (t : ℕ → Bool) (b : Bool) → ((i : ℕ) → i < n → t i ≡ b) → count n t ≡ cond b n 0
+count-const n t true h = count-all n t h
+count-const n t false h = count-none n t h
+
+-- ---- tests of every number below a bound
+
+pub all-each : (n : ℕ) (t : ℕ → Bool) → all n t ≡ true → (i : ℕ) → i < n → t i ≡ true
+unfolding all
+all-each zero t e i h = absurd (omega arith)
+all-each (suc n) t e i h =
+    let p = and-split _ _ e in
+    by-cases (ℕ-discrete i n) (λ d. ap t d ∙ p .1) (λ d. all-each n t (p .0) i (omega arith))
+
+pub each-all : (n : ℕ) (t : ℕ → Bool) → ((i : ℕ) → i < n → t i ≡ true) → all n t ≡ true
+unfolding all
+each-all zero t h = refl
+each-all (suc n) t h = and-join _ _ (each-all n t (λ i s. h i (omega arith))) (h n (omega arith))
