@@ -1,27 +1,23 @@
--- Reading over more extents than a state can have slots is refused with Shape.
-use Prim.Native.Nat.{ℕ, suc, _+_, _*_, _≤_, _<_}
+-- Reading over the words of more extents than a state can have slots is refused with Shape.
+use Prim.Native.Nat.{ℕ, _*_, _<_}
 use native.Mathlib.Omega.{arith}
-use mathlib.Core.Bool.{Bool, true, false, not, cond, _&&_}
-use mathlib.Core.Path.{_≡_, refl, ap, _∙_}
-use mathlib.Core.List.{List, [], _∷_}
-use lib.Dec.{leb, eqb}
-use lib.ListN.{length}
+use mathlib.Core.Path.{_≡_, refl}
+use mathlib.Core.List.{List}
+use Rattle.rules.specs.Lent.{lent}
+use Rattle.rules.specs.Answers.{listed, outcome}
+use Rattle.rules.specs.Calls.{Call, refused}
+use Rattle.layer.specs.Stand.{call}
 use Rattle.rules.specs.declared.Head.{Head}
-use Rattle.rules.specs.declared.Extent.{Extent}
 use Rattle.rules.specs.declared.Refusal.{Refusal}
 use Rattle.rules.specs.declared.Listed.{Listed}
-use Rattle.rules.specs.Extents.{flat}
-use Rattle.rules.specs.Shape.{sizes, lengths, shape, shaped}
-use Rattle.rules.specs.Lent.{Lent, lent}
-use Rattle.rules.specs.Answers.{outcome, listed, refuse, number}
-use Rattle.rules.specs.Calls.{Call, verdict, refused, call}
-use Rattle.rules.specs.Blocks.{stride}
+use Rattle.laws.specs.Bools.{never}
+use Rattle.laws.specs.Shapes.{shaped-true}
+use Rattle.laws.specs.Calls.{call-shape}
+use Rattle.records.specs.Laid.{First}
 
-pub flat-length : (es : List Extent) → length (flat es) ≡ 3 * length es
-unfolding flat
-flat-length [] = refl
-flat-length (e ∷ es) = omega (arith, flat-length es)
-
-call-shape : (c : Call) (s : Lent) → shaped s ≡ false → refused (number Refusal.Shape) c s ≡ call c s
-unfolding call verdict refuse
-call-shape c s e = rw e
+-- 01, Numbers: M 1 to 8,192
+pub too-many : (h : Head) (ext blk spare : List ℕ) (l n : ℕ) (out ws : List ℕ) (k : ℕ) → First ws k ext → 8192 < k
+    → outcome (listed (Listed.Refused Refusal.Shape h)) ext blk spare out ≡ call (Call.read l n out) (lent h ext blk spare)
+unfolding refused call
+too-many h ext blk spare l n out ws k f many =
+    refl

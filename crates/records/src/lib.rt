@@ -1,10 +1,19 @@
 // Reading over a slice of extents. The borrow checker covers no function over `&[Extent]`: `flatten`, which lays the extents into flat
 // words, and `read_records`, which lends a local array to it and then reads, are proved by hand. All refusals stand in the covered code.
 ghost use mathlib.Core.Path.{_≡_};
-ghost use Rattle.records.specs.Laid.{put, laid};
+ghost use Prim.Native.Nat.{ℕ, _*_, _≤_};
+ghost use mathlib.Core.List.{List};
+ghost use lib.ListN.{length};
+ghost use Rattle.rules.specs.Answers.{listed, outcome};
+ghost use Rattle.rules.specs.Calls.{Call};
+ghost use Rattle.rules.specs.Lent.{lent};
+ghost use Rattle.layer.specs.Stand.{call};
+ghost use Rattle.records.specs.Laid.{put, laid, First};
+
+use rules::{Extent, Head, Listed, Refusal};
 
 // The three words of slot i are the extent's numbers. Where there is no such slot, nothing changes.
-pub fn put_extent(words: &mut [u32], i: usize, e: rules::Extent)
+pub fn put_extent(words: &mut [u32], i: usize, e: Extent)
     ensures { λ _. ⌜ now (words .exit) ≡ put (now (words .entry)) i e ⌝ }
 {
     if i < words.len() / 3 {
@@ -16,7 +25,7 @@ pub fn put_extent(words: &mut [u32], i: usize, e: rules::Extent)
 }
 
 // The first words are the extents' numbers, three for each, as far as there are slots.
-pub fn flatten(recs: &[rules::Extent], words: &mut [u32])
+pub fn flatten(recs: &[Extent], words: &mut [u32])
     ensures { λ _. ⌜ now (words .exit) ≡ laid (now (recs .entry)) (now (words .entry)) ⌝ }
 {
     let mut i = 0;
@@ -24,4 +33,25 @@ pub fn flatten(recs: &[rules::Extent], words: &mut [u32])
         put_extent(words, i, recs[i]);
         i = i + 1;
     }
+}
+
+// The extents are k; their words are the first of these words, where k is no more than a state can have slots.
+pub fn read_words(
+    h: Head,
+    words: &[u32],
+    k: usize,
+    blk: &[u32],
+    spare: &[u32],
+    l: u32,
+    n: u32,
+    out: &mut [u32],
+) -> Listed
+    requires { ⌜ 3 * 8192 ≤ length (now words) ⌝ }
+    ensures { λ r. ⌜ ((ext : List ℕ) → First (now (words .entry)) k ext → outcome (listed r) ext (now (blk .entry)) (now (spare .entry)) (now (out .exit)) ≡ call (Call.read l n (now (out .entry))) (lent h ext (now (blk .entry)) (now (spare .entry)))) ⌝ }
+{
+    if 8192 < k {
+        return Listed::Refused(Refusal::Shape, h);
+    }
+    let e = 3 * k;
+    layer::read(h, &words[..e], blk, spare, l, n, out)
 }
