@@ -6,7 +6,8 @@ use mathlib.Core.List.{List, [], _∷_}
 use lib.ListN.{length, getD, take, drop, set}
 use Rattle.rules.specs.declared.Extent.{Extent}
 use Rattle.rules.specs.Extents.{extent, flat}
-use Rattle.records.specs.Laid.{put, laidAt, laid}
+use Rattle.laws.specs.Slots.{flat-length}
+use Rattle.records.specs.Laid.{put, laidAt, laid, First}
 
 -- what an element that is not there would be
 abbrev pub blank : Extent
@@ -78,3 +79,7 @@ laid-take (e ∷ es) (a ∷ b ∷ []) l = absurd (omega (arith, l))
 laid-take (e ∷ es) (a ∷ b ∷ c ∷ ws) l =
     let h : 3 * suc (length es) ≡ suc (suc (suc (3 * length es))) = omega arith in
     rw h (ap (λ (t : List ℕ). e .logical ∷ e .physical ∷ e .count ∷ t) (laid-take es ws (omega (arith, l))))
+
+-- 24,576 words are slots enough
+pub laid-first : (es : List Extent) (ws : List ℕ) → 3 * 8192 ≤ length ws → First (laid es ws) (length es) (flat es)
+laid-first es ws h = record { all = flat-length es; first = λ few. laid-take es ws (omega (arith, h, few)) }

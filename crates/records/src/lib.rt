@@ -6,11 +6,14 @@ ghost use mathlib.Core.List.{List};
 ghost use lib.ListN.{length};
 ghost use Rattle.rules.specs.Answers.{listed, outcome};
 ghost use Rattle.rules.specs.Calls.{Call};
+ghost use Rattle.rules.specs.Extents.{flat};
 ghost use Rattle.rules.specs.Lent.{lent};
 ghost use Rattle.layer.specs.Stand.{call};
 ghost use Rattle.records.specs.Laid.{put, laid, First};
-
-use rules::{Extent, Head, Listed, Refusal};
+use rules::Extent;
+use rules::Head;
+use rules::Listed;
+use rules::Refusal;
 
 // The three words of slot i are the extent's numbers. Where there is no such slot, nothing changes.
 pub fn put_extent(words: &mut [u32], i: usize, e: Extent)
@@ -54,4 +57,20 @@ pub fn read_words(
     }
     let e = 3 * k;
     layer::read(h, &words[..e], blk, spare, l, n, out)
+}
+
+pub fn read_records(
+    h: Head,
+    recs: &[Extent],
+    blk: &[u32],
+    spare: &[u32],
+    l: u32,
+    n: u32,
+    out: &mut [u32],
+) -> Listed
+    ensures { λ r. ⌜ outcome (listed r) (flat (now (recs .entry))) (now (blk .entry)) (now (spare .entry)) (now (out .exit)) ≡ call (Call.read l n (now (out .entry))) (lent h (flat (now (recs .entry))) (now (blk .entry)) (now (spare .entry))) ⌝ }
+{
+    let mut words = [0u32; 24576];
+    flatten(recs, &mut words);
+    read_words(h, &words, recs.len(), blk, spare, l, n, out)
 }
