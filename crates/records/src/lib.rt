@@ -1,5 +1,6 @@
-// Reading over a slice of extents. The borrow checker covers no function over `&[Extent]`: `flatten`, which lays the extents into flat
-// words, and `read_records`, which lends a local array to it and then reads, are proved by hand. All refusals stand in the covered code.
+// Reading over a slice of extents. The borrow checker covers no function over `&[Extent]`, so `flatten`, which lays the extents into flat
+// words, and `read_records`, which lends a local array to it and then reads, are thin and are proved by hand; all refusals stand in
+// covered code.
 ghost use mathlib.Core.Path.{_≡_};
 ghost use Prim.Native.Nat.{ℕ, _*_, _≤_};
 ghost use mathlib.Core.List.{List};
@@ -38,7 +39,8 @@ pub fn flatten(recs: &[Extent], words: &mut [u32])
     }
 }
 
-// The extents are k; their words are the first of these words, where k is no more than a state can have slots.
+// Reads over the words of k extents, which are the first of `words`. More extents than a state can have slots have no room there, and are
+// refused with Shape whatever their words are.
 pub fn read_words(
     h: Head,
     words: &[u32],
@@ -59,6 +61,7 @@ pub fn read_words(
     layer::read(h, &words[..e], blk, spare, l, n, out)
 }
 
+// Reads over exactly M extents as over their flat words: the same answers, and the same refusals in the same order.
 pub fn read_records(
     h: Head,
     recs: &[Extent],
