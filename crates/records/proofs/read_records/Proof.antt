@@ -46,13 +46,12 @@ use denote.Triple.Table.{entered, cited}
 use denote.Triple.Walked.{says, Stays, stay-none, stay-none-slice, gave-slice, walkOf, goes-none, goes-none-slice, goes-gave-slice, Walks, ends-at, walked, walk-meets}
 use denote.Exit.{yes}
 use Rattle.rules.specs.Answers.{listed, outcome}
-use Rattle.rules.specs.Calls.{Call}
+use Rattle.rules.specs.Calls.{Call, call}
 use Rattle.rules.specs.Extents.{flat}
 use Rattle.rules.specs.Lent.{lent}
 use Rattle.rules.specs.declared.Extent.{Extent}
 use Rattle.rules.specs.declared.Head.{Head}
 use Rattle.rules.specs.declared.Listed.{Listed}
-use Rattle.layer.specs.Stand.{call}
 use Rattle.records.specs.Laid.{laid, First}
 use Rattle.records.specs.LaidLaws.{laid-first}
 use Rattle.rules.proofs.Extent as T
