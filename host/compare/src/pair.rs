@@ -5,7 +5,7 @@ use plain::requests::{Buffer, Request};
 use plain::shrink::{lines, shortest};
 use plain::{Head, Layer, Outcome, Plain, Words};
 
-/// The largest sizes of document 01: beyond them no         Buffer::ALL.into_iter().for_each(|buffer| buffer.of(&mut words).fill(UNTOUCHED)); need be longer.
+/// The largest sizes of document 01: beyond them no buffer need be longer.
 const MOST: (u32, u32, u32) = (1024, 256, 8192);
 
 /// A layer, plain, and what is lent to both. What one does otherwise than the
@@ -97,7 +97,7 @@ impl<L: Layer + Clone> Pair<L> {
     /// Refused, what was lent before stays.
     fn fresh(&mut self, blocks: u32, pages: u32, logical: u32, slots: u32) -> Result<u32, String> {
         let mut words = Words::of_sizes(blocks.min(MOST.0), pages.min(MOST.1), slots.min(MOST.2));
-        [&mut words.extents, &mut words.blocks, &mut words.spare].map(|buffer| buffer.fill(UNTOUCHED));
+        Buffer::ALL.into_iter().for_each(|buffer| buffer.of(&mut words).fill(UNTOUCHED));
         let mut plain_words = words.clone();
         let outcome = self.layer.fresh(blocks, pages, logical, slots, &mut words);
         let expected = Plain.fresh(blocks, pages, logical, slots, &mut plain_words);
