@@ -104,6 +104,11 @@ impl<L: Layer + Clone> Host<L> {
         self.head
     }
 
+    /// What is lent now.
+    pub fn lent(&self) -> (Head, &Words) {
+        (self.head, &self.words)
+    }
+
     pub fn given(&self) -> [u64; 9] {
         self.given
     }
