@@ -274,12 +274,15 @@ impl<L: Layer + Clone> Host<L> {
             return Ok(());
         }
         self.room = head.pages;
+        // On a large device all pages are read at the end alone.
+        self.thorough = head.blocks * head.pages <= 4096;
         let mut reclaims = 0;
         while self.reclaim()?.refusal == 0 {
             reclaims += 1;
             check(reclaims < head.blocks, "more than B-1 reclaims")?;
         }
         check(self.report()?.stale == 0, "reclaim stopped with pages stale")?;
+        self.thorough = true;
         self.room = 3 * head.pages;
         let write = self.write(Request::Write { number: head.last + 1, start, count }, start, count)?;
         check(write.refusal == 0, "the write is refused after reclaiming")
