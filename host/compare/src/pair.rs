@@ -1,8 +1,8 @@
 //! A layer and plain, side by side.
 
 use plain::host::UNTOUCHED;
-use plain::requests::{Buffer, Request};
-use plain::shrink::{lines, shortest};
+use plain::requests::{Buffer, Request, MOST_ROOM};
+use plain::shrink::{self, Checked};
 use plain::{Head, Layer, Outcome, Plain, Words};
 
 /// The largest sizes of document 01: beyond them no buffer need be longer.
@@ -23,10 +23,11 @@ pub struct Pair<L> {
 }
 
 impl<L: Layer + Clone> Pair<L> {
-    /// Before the first accepted fresh nothing is lent.
+    /// Before the first accepted fresh nothing is lent, and there is as much room for
+    /// answers as in a replay.
     pub fn new(layer: L) -> Pair<L> {
         let (head, words, plain_words) = (Head::default(), Words::default(), Words::default());
-        Pair { layer, head, words, plain_words, room: 0, calls: 0, given: [0; 9] }
+        Pair { layer, head, words, plain_words, room: MOST_ROOM, calls: 0, given: [0; 9] }
     }
 
     /// A pair that is lent this.
@@ -35,7 +36,7 @@ impl<L: Layer + Clone> Pair<L> {
     }
 
     /// Runs a history.
-    pub fn replay(&mut self, history: &[Request]) -> Result<(), String> {
+    pub fn replay(&mut self, history: &[Request]) -> Checked {
         history.iter().try_for_each(|&request| self.run(request).map(|_| ()))
     }
 
@@ -70,7 +71,7 @@ impl<L: Layer + Clone> Pair<L> {
     }
 
     /// Runs a request on both and returns the refusal's number.
-    pub fn run(&mut self, request: Request) -> Result<u32, String> {
+    pub fn run(&mut self, request: Request) -> Checked<u32> {
         match request {
             Request::Room { words } => self.room = words,
             Request::Head { field, value } => field.set(&mut self.head, value),
@@ -95,7 +96,7 @@ impl<L: Layer + Clone> Pair<L> {
 
     /// Lends buffers of the lengths that the sizes ask for, with old words in them.
     /// Refused, what was lent before stays.
-    fn fresh(&mut self, blocks: u32, pages: u32, logical: u32, slots: u32) -> Result<u32, String> {
+    fn fresh(&mut self, blocks: u32, pages: u32, logical: u32, slots: u32) -> Checked<u32> {
         let mut words = Words::of_sizes(blocks.min(MOST.0), pages.min(MOST.1), slots.min(MOST.2));
         Buffer::ALL.into_iter().for_each(|buffer| buffer.of(&mut words).fill(UNTOUCHED));
         let mut plain_words = words.clone();
@@ -111,7 +112,7 @@ impl<L: Layer + Clone> Pair<L> {
         Ok(outcome.refusal)
     }
 
-    fn report(&mut self) -> Result<u32, String> {
+    fn report(&mut self) -> Checked<u32> {
         let counts = self.layer.report(self.head, &self.words);
         let expected = Plain.report(self.head, &self.plain_words);
         self.count(counts.refusal);
@@ -120,7 +121,7 @@ impl<L: Layer + Clone> Pair<L> {
         Ok(counts.refusal)
     }
 
-    fn call(&mut self, request: Request) -> Result<u32, String> {
+    fn call(&mut self, request: Request) -> Checked<u32> {
         let mut answer = vec![UNTOUCHED; self.room as usize];
         let mut plain_answer = answer.clone();
         let outcome = dispatch(&self.layer, self.head, &mut self.words, request, &mut answer);
@@ -157,19 +158,14 @@ fn dispatch(
     }
 }
 
-fn same<T: PartialEq + std::fmt::Debug>(
-    request: Request,
-    what: &str,
-    given: &T,
-    plain: &T,
-) -> Result<(), String> {
+fn same<T: PartialEq + std::fmt::Debug>(request: Request, what: &str, given: &T, plain: &T) -> Checked {
     if given == plain {
         return Ok(());
     }
     Err(format!("{request}: {what} {given:?}, but plain's is {plain:?}"))
 }
 
-fn same_buffer(request: Request, what: &str, given: &[u32], plain: &[u32]) -> Result<(), String> {
+fn same_buffer(request: Request, what: &str, given: &[u32], plain: &[u32]) -> Checked {
     if given == plain {
         return Ok(());
     }
@@ -179,7 +175,7 @@ fn same_buffer(request: Request, what: &str, given: &[u32], plain: &[u32]) -> Re
     Err(format!("{request}: word {index} of {what} is {word:?}, but plain's is {expected:?}"))
 }
 
-fn same_words(request: Request, given: &Words, plain: &Words) -> Result<(), String> {
+fn same_words(request: Request, given: &Words, plain: &Words) -> Checked {
     same_buffer(request, "extents", &given.extents, &plain.extents)?;
     same_buffer(request, "blocks", &given.blocks, &plain.blocks)?;
     same_buffer(request, "spare", &given.spare, &plain.spare)
@@ -191,8 +187,6 @@ fn same_words(request: Request, given: &Words, plain: &Words) -> Result<(), Stri
 /// # Panics
 /// Always.
 pub fn fail<L: Layer + Clone>(from: &Pair<L>, history: &[Request]) -> ! {
-    let differ = |list: &[Request]| from.clone().replay(list).err();
-    let history = shortest(history, |list| differ(list).is_some());
-    let what = differ(&history).unwrap_or_default();
-    panic!("{what}, after\n{}", lines(&history));
+    let lent = if from.head == Head::default() { String::new() } else { format!(", on {:?}", from.head) };
+    shrink::fail(history, |list| from.clone().replay(list).map_err(|what| what + &lent))
 }

@@ -6,6 +6,7 @@ use compare::{fail, random, times, Lent, Pair};
 use plain::generate;
 use plain::random::Random;
 use plain::requests::{Buffer, Field, Request};
+use plain::shrink::{self, Checked};
 use plain::Head;
 
 /// Every call, with numbers and ranges that a sound state accepts if it can.
@@ -113,19 +114,27 @@ fn several_words(state: &Pair<Lent>, history: &[Request], random: &mut Random) -
     calls
 }
 
-/// Each length one off, shorter and longer.
-fn each_length(state: &Pair<Lent>, history: &[Request]) {
+/// Every call after a history, with a buffer lent that is a word shorter or longer:
+/// refused 1, as plain does.
+fn one_off(history: &[Request], buffer: Buffer, longer: bool) -> Checked {
+    let mut pair = Pair::new(Lent);
+    pair.replay(history)?;
+    pair.lend_one_off(buffer, longer);
+    let off = if longer { "one word more" } else { "one word less" };
+    for request in calls(pair.head()) {
+        let refusal = pair.run(request).map_err(|what| format!("{what}, with {off} of {buffer:?} lent"))?;
+        if refusal != 1 && !matches!(request, Request::Room { .. }) {
+            return Err(format!("{request} is not refused 1 with {off} of {buffer:?} lent"));
+        }
+    }
+    Ok(())
+}
+
+fn each_length(history: &[Request]) {
     for buffer in Buffer::ALL {
         for longer in [false, true] {
-            let mut pair = state.clone();
-            pair.lend_one_off(buffer, longer);
-            for request in calls(state.head()) {
-                let refusal = pair.run(request).unwrap_or_else(|what| {
-                    let lines = plain::shrink::lines(history);
-                    let off = if longer { "one word more" } else { "one word less" };
-                    panic!("{what}, with {off} of {buffer:?} lent, after\n{lines}");
-                });
-                assert_eq!(refusal == 1, !matches!(request, Request::Room { .. }));
+            if one_off(history, buffer, longer).is_err() {
+                shrink::fail(history, |list| one_off(list, buffer, longer));
             }
         }
     }
@@ -165,8 +174,8 @@ fn every_word_and_field_of_small_states() {
 fn every_length_one_off() {
     let mut random = random(12);
     for _ in 0..times(100) {
-        for (state, history) in states(&mut random, 6, 6) {
-            each_length(&state, &history);
+        for (_, history) in states(&mut random, 6, 6) {
+            each_length(&history);
         }
     }
 }

@@ -9,10 +9,13 @@ use plain::requests::{Field, Request};
 /// How often each refusal was given; 0 counts acceptances.
 type Given = [u64; 9];
 
-/// So many random calls after what a pair is lent.
-fn calls_after(from: Pair<Lent>, random: &mut Random, calls: u32) -> Given {
+/// So many random calls after the requests that begin a history.
+fn calls_after(from: Pair<Lent>, begun: &[Request], random: &mut Random, calls: u32) -> Given {
     let mut pair = from.clone();
-    let mut history = Vec::new();
+    let mut history = begun.to_vec();
+    if pair.replay(begun).is_err() {
+        fail(&from, &history);
+    }
     for _ in 0..calls {
         for request in generate::call(random, pair.head()) {
             history.push(request);
@@ -32,11 +35,7 @@ fn history(random: &mut Random, fresh: Request, calls: u32) -> Given {
         let large = [u64::from(u32::MAX), 1 << 63, u64::MAX - 40, u64::MAX - 1, u64::MAX];
         begun.push(Request::Head { field: Field::Last, value: random.pick(&large) });
     }
-    let mut pair = Pair::new(Lent);
-    if pair.replay(&begun).is_err() {
-        fail(&Pair::new(Lent), &begun);
-    }
-    calls_after(pair, random, calls)
+    calls_after(Pair::new(Lent), &begun, random, calls)
 }
 
 fn add(total: &mut Given, given: Given) {
@@ -101,7 +100,7 @@ fn largest_devices() {
         let logical = (blocks - 2) * pages;
         history(&mut random, Request::Fresh { blocks, pages, logical, slots }, times(60));
         let (head, words) = generate::scattered(blocks, pages, logical, slots, slots);
-        calls_after(Pair::of(Lent, head, words), &mut random, times(60));
+        calls_after(Pair::of(Lent, head, words), &[], &mut random, times(60));
     }
 }
 

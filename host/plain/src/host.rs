@@ -9,15 +9,12 @@
 use crate::flash::Flash;
 use crate::generate;
 use crate::random::Random;
-use crate::requests::Request;
-use crate::shrink::{lines, shortest};
+use crate::requests::{Request, MOST_ROOM};
+use crate::shrink::{fail, Checked};
 use crate::{Counts, Head, Layer, Outcome, Refusal, Words};
 
 /// Stands in an answer buffer where no answer was put.
 pub const UNTOUCHED: u32 = 0xA5A5_A5A5;
-
-/// What was done, or what does not hold.
-pub type Checked<T = ()> = Result<T, String>;
 
 fn check(holds: bool, what: &str) -> Checked {
     if holds {
@@ -67,7 +64,7 @@ impl<L: Layer + Clone> Host<L> {
             flash: Flash::erased(blocks, pages),
             contents: vec![None; logical as usize],
             unused_contents: 0,
-            room: 0,
+            room: MOST_ROOM,
             thorough: true,
             given: [0; 9],
         })
@@ -316,11 +313,4 @@ pub fn history<L: Layer + Clone>(layer: L, random: &mut Random, begun: &[Request
         }
     }
     host.given()
-}
-
-/// Fails with the shortest history of which `checked` does not hold.
-fn fail(history: &[Request], checked: impl Fn(&[Request]) -> Checked) -> ! {
-    let history = shortest(history, |list| checked(list).is_err());
-    let what = checked(&history).err().unwrap_or_default();
-    panic!("{what}, after\n{}", lines(&history));
 }

@@ -2,6 +2,9 @@
 
 use crate::requests::Request;
 
+/// What was done, or what does not hold.
+pub type Checked<T = ()> = Result<T, String>;
+
 /// How many lists are tried at most.
 const MOST_TRIES: u32 = 4000;
 
@@ -32,6 +35,16 @@ pub fn shortest(list: &[Request], fails: impl Fn(&[Request]) -> bool) -> Vec<Req
 /// A history as a request list.
 pub fn lines(list: &[Request]) -> String {
     list.iter().map(|request| format!("{request}\n")).collect()
+}
+
+/// Fails with the shortest history of which `checked` does not hold.
+///
+/// # Panics
+/// Always.
+pub fn fail(history: &[Request], checked: impl Fn(&[Request]) -> Checked) -> ! {
+    let history = shortest(history, |list| checked(list).is_err());
+    let what = checked(&history).err().unwrap_or_default();
+    panic!("{what}, after\n{}", lines(&history));
 }
 
 #[cfg(test)]
