@@ -161,7 +161,7 @@ fn states(random: &mut Random, blocks: u32, pages: u32) -> Vec<(Pair<Lent>, Vec<
 fn every_word_and_field_of_small_states() {
     let mut random = random(11);
     let mut calls = 0;
-    for _ in 0..times(30) {
+    for _ in 0..times(60) {
         for (state, history) in states(&mut random, 5, 5) {
             calls += each_word(&state, &history) + each_field(&state, &history);
             calls += several_words(&state, &history, &mut random);

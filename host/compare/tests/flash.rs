@@ -34,10 +34,18 @@ fn middling_devices() {
     }
 }
 
+/// From a device that is all but full.
+#[test]
+fn full_device() {
+    let mut random = random(34);
+    let fresh = Request::Fresh { blocks: 64, pages: 128, logical: 7936, slots: 4096 };
+    let filled = generate::filled(&mut random, fresh);
+    history(Lent, &mut random, &filled, times(40));
+}
+
 #[test]
 fn largest_device() {
-    let mut random = random(34);
+    let mut random = random(35);
     let fresh = Request::Fresh { blocks: 1024, pages: 256, logical: 261_632, slots: 8192 };
-    let filled = generate::filled(&mut random, fresh);
-    history(Lent, &mut random, &filled, times(5));
+    history(Lent, &mut random, &[fresh], times(15));
 }
