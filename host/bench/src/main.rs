@@ -29,8 +29,8 @@ fn main() -> ExitCode {
 
 fn print_calls(samples: &[calls::Sample]) {
     if std::env::consts::ARCH != "x86_64" {
-        println!("The library is compiled for x86-64 and this machine is none: the times below");
-        println!("are those of an emulator or of a stand-in, and say nothing.\n");
+        println!("This machine is no x86-64, for which the library is compiled: the times below mean");
+        println!("something only if UTASIRO_LIB_DIR was the folder that host/native/make prints.\n");
     }
     calls::table(samples).iter().for_each(|line| println!("{line}"));
     println!();
