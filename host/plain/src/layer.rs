@@ -27,6 +27,13 @@ fn accepted(count: usize, head: Head) -> Outcome {
     Outcome { refusal: 0, count: count as u32, head }
 }
 
+/// The head and the words that a table stands in.
+pub fn words_of(device: &Device) -> (Head, Words) {
+    let mut words = Words::of_sizes(device.blocks, device.pages, device.slots);
+    let head = put(device, &mut words);
+    (head, words)
+}
+
 /// Puts a table into words of its shape.
 fn put(device: &Device, words: &mut Words) -> Head {
     let extents = device.extents();

@@ -4,7 +4,9 @@
 //! definitions. It keeps one line per logical page (`device`), reads that table
 //! out of lent words after testing them against rules 1 to 6 (`sound`), and puts
 //! it back as lent words (`layer`). `requests` runs any [`Layer`] over a request
-//! list; `flash` does to a simulated flash what accepted answers list.
+//! list; `flash` does to a simulated flash what accepted answers list. `generate`,
+//! `host` and `shrink` try a layer: random requests, what must hold of the answers,
+//! and the shortest history of a failure.
 //!
 //! ```
 //! use plain::{Layer, Plain, Words};
@@ -20,12 +22,15 @@
 
 pub mod device;
 pub mod flash;
+pub mod generate;
+pub mod host;
 mod layer;
 pub mod random;
 pub mod requests;
+pub mod shrink;
 mod sound;
 
-pub use layer::Plain;
+pub use layer::{words_of, Plain};
 
 /// The word of an erased spare entry.
 pub const ERASED: u32 = 4_294_967_295;

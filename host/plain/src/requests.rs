@@ -100,7 +100,7 @@ impl fmt::Display for Request {
 }
 
 impl Buffer {
-    const ALL: [Buffer; 3] = [Buffer::Extents, Buffer::Blocks, Buffer::Spare];
+    pub const ALL: [Buffer; 3] = [Buffer::Extents, Buffer::Blocks, Buffer::Spare];
 
     fn name(self) -> &'static str {
         match self {
@@ -115,7 +115,8 @@ impl Buffer {
         named.ok_or(Wrong::NoBuffer)
     }
 
-    fn of(self, words: &mut Words) -> &mut Vec<u32> {
+    /// The buffer among the lent words.
+    pub fn of(self, words: &mut Words) -> &mut Vec<u32> {
         match self {
             Buffer::Extents => &mut words.extents,
             Buffer::Blocks => &mut words.blocks,
@@ -125,7 +126,7 @@ impl Buffer {
 }
 
 impl Field {
-    const ALL: [Field; 7] =
+    pub const ALL: [Field; 7] =
         [Field::Blocks, Field::Pages, Field::Logical, Field::Slots, Field::Used, Field::Reserve, Field::Last];
 
     fn name(self) -> &'static str {
@@ -154,7 +155,7 @@ impl Field {
     }
 
     /// Sets the field; the value must not be above its most.
-    fn set(self, head: &mut Head, value: u64) {
+    pub fn set(self, head: &mut Head, value: u64) {
         match self {
             Field::Blocks => head.blocks = value as u32,
             Field::Pages => head.pages = value as u32,

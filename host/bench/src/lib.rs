@@ -1,0 +1,6 @@
+//! What the benchmark measures: docs/BENCHMARK.md says how to run it.
+
+pub mod calls;
+pub mod map;
+pub mod progress;
+pub mod sound;

@@ -1,0 +1,31 @@
+//! The library compared with the plain implementation.
+//!
+//! [`Lent`] is the library as a layer over lent words. [`Pair`] runs one request
+//! after the other on a layer and on plain, and compares every answer and every
+//! lent word. The tests try random histories, damaged states, requests sent again
+//! and a simulated flash; a failure prints the shortest history it can find as a
+//! request list (docs/REPLAY.md).
+//!
+//! `UTASIRO_LONG=1` runs twenty times as much. `UTASIRO_SEED=K` runs others.
+
+mod lent;
+mod pair;
+
+pub use lent::Lent;
+pub use pair::{fail, Pair};
+
+use plain::random::Random;
+
+/// So many of something, twenty times as many in a long run.
+pub fn times(count: u32) -> u32 {
+    if std::env::var_os("UTASIRO_LONG").is_some_and(|long| long == "1") {
+        return 20 * count;
+    }
+    count
+}
+
+/// A source of numbers for a test, another one for each UTASIRO_SEED.
+pub fn random(test: u64) -> Random {
+    let seed = std::env::var("UTASIRO_SEED").ok().and_then(|seed| seed.parse::<u64>().ok()).unwrap_or(0);
+    Random::new(seed.wrapping_mul(1000).wrapping_add(test))
+}

@@ -1,0 +1,316 @@
+//! A host over any layer, with a simulated flash that does as answers list.
+//!
+//! Checked after every call: a refusal changes nothing lent; an answer overwrites
+//! only the words it needs; free + live + stale = (B-1) x N; every logical page
+//! reads as its last accepted write or as a hole (demand 2); a write or trim sent
+//! again is refused and changes nothing. Demand 3 can be run to its bound.
+//! [`history`] does all this with random calls.
+
+use crate::flash::Flash;
+use crate::generate;
+use crate::random::Random;
+use crate::requests::{Request, MOST_ROOM};
+use crate::shrink::{fail, Checked};
+use crate::{Counts, Head, Layer, Outcome, Refusal, Words};
+
+/// Stands in an answer buffer where no answer was put.
+pub const UNTOUCHED: u32 = 0xA5A5_A5A5;
+
+fn check(holds: bool, what: &str) -> Checked {
+    if holds {
+        return Ok(());
+    }
+    Err(what.to_string())
+}
+
+/// A device, the flash under it, and what a host expects to read.
+#[derive(Clone)]
+pub struct Host<L> {
+    layer: L,
+    head: Head,
+    words: Words,
+    flash: Flash,
+    /// The last accepted write of each logical page, or a hole.
+    contents: Vec<Option<u64>>,
+    /// Contents never programmed before.
+    unused_contents: u64,
+    /// Words of the answer buffer.
+    room: u32,
+    /// Whether all is checked, or only that the flash takes what is listed.
+    thorough: bool,
+    /// How often each refusal was given; 0 counts acceptances.
+    given: [u64; 9],
+}
+
+/// An accepted or refused call and its answer's words.
+struct Answer {
+    outcome: Outcome,
+    words: Vec<u32>,
+}
+
+impl<L: Layer + Clone> Host<L> {
+    /// A fresh device on erased flash; the sizes must be those of document 01.
+    pub fn fresh(layer: L, blocks: u32, pages: u32, logical: u32, slots: u32) -> Checked<Host<L>> {
+        let mut words = Words::of_sizes(blocks, pages, slots);
+        words.spare.fill(UNTOUCHED);
+        words.extents.fill(UNTOUCHED);
+        words.blocks.fill(UNTOUCHED);
+        let outcome = layer.fresh(blocks, pages, logical, slots, &mut words);
+        check(outcome.refusal == 0, "fresh is refused")?;
+        Ok(Host {
+            layer,
+            head: outcome.head,
+            words,
+            flash: Flash::erased(blocks, pages),
+            contents: vec![None; logical as usize],
+            unused_contents: 0,
+            room: MOST_ROOM,
+            thorough: true,
+            given: [0; 9],
+        })
+    }
+
+    /// Runs a history, a fresh and then calls, and checks all that must hold; if
+    /// not thorough, only that the flash takes what is listed.
+    pub fn replay(layer: L, history: &[Request], thorough: bool) -> Checked<Host<L>> {
+        let Some((&Request::Fresh { blocks, pages, logical, slots }, rest)) = history.split_first() else {
+            return Err(String::from("a history begins with fresh"));
+        };
+        let mut host = Host::fresh(layer, blocks, pages, logical, slots)?;
+        host.thorough = thorough;
+        rest.iter().try_for_each(|&request| host.run(request))?;
+        host.thorough = true;
+        Ok(host)
+    }
+
+    /// Runs a request of a history and checks what must hold.
+    pub fn run(&mut self, request: Request) -> Checked {
+        match request {
+            Request::Room { words } => self.room = words,
+            Request::Write { start, count, .. } => self.write(request, start, count).map(|_| ())?,
+            Request::Trim { start, count, .. } => self.trim(request, start, count)?,
+            Request::Read { start, count } => self.read(start, count)?,
+            Request::Reclaim => self.reclaim().map(|_| ())?,
+            Request::Report => self.report().map(|_| ())?,
+            other => return Err(format!("{other} is no request of a history")),
+        }
+        Ok(())
+    }
+
+    pub fn head(&self) -> Head {
+        self.head
+    }
+
+    /// What is lent now.
+    pub fn lent(&self) -> (Head, &Words) {
+        (self.head, &self.words)
+    }
+
+    pub fn given(&self) -> [u64; 9] {
+        self.given
+    }
+
+    /// Runs one call and checks what holds of every call.
+    fn call(&mut self, request: Request) -> Checked<Answer> {
+        let before = (self.head, self.words.clone());
+        let mut buffer = vec![UNTOUCHED; self.room as usize];
+        let (outcome, needed) = self.dispatch(request, &mut buffer);
+        let given = self.given.get_mut(outcome.refusal as usize).ok_or("no refusal has this number")?;
+        *given += 1;
+        self.head = outcome.head;
+        if outcome.refusal != 0 {
+            check(outcome.count == 0, "a refusal has a count")?;
+            check((self.head, &self.words) == (before.0, &before.1), "a refusal changed what is lent")?;
+        }
+        check(needed <= buffer.len(), "an answer is longer than its buffer")?;
+        let rest = &buffer[needed..];
+        check(rest.iter().all(|&word| word == UNTOUCHED), "words beyond the answer changed")?;
+        buffer.truncate(needed);
+        Ok(Answer { outcome, words: buffer })
+    }
+
+    /// The call itself, and how many words its answer takes.
+    fn dispatch(&mut self, request: Request, buffer: &mut [u32]) -> (Outcome, usize) {
+        let (layer, head, words) = (&self.layer, self.head, &mut self.words);
+        match request {
+            Request::Write { number, start, count } => {
+                let outcome = layer.write(head, words, number, start, count, buffer);
+                (outcome, 3 * outcome.count as usize)
+            }
+            Request::Trim { number, start, count } => (layer.trim(head, words, number, start, count), 0),
+            Request::Read { start, count } => {
+                let outcome = layer.read(head, words, start, count, buffer);
+                (outcome, 3 * outcome.count as usize)
+            }
+            _ => {
+                let outcome = layer.reclaim(head, words, buffer);
+                (outcome, outcome.count as usize)
+            }
+        }
+    }
+
+    fn report(&self) -> Checked<Counts> {
+        let counts = self.layer.report(self.head, &self.words);
+        check(counts.refusal == 0, "report is refused")?;
+        check(counts.head == self.head, "report changed the head")?;
+        Ok(counts)
+    }
+
+    fn write(&mut self, request: Request, start: u32, count: u32) -> Checked<Outcome> {
+        let before = self.head;
+        let free = if self.thorough { self.report()?.free } else { 0 };
+        let answer = self.call(request)?;
+        if self.thorough {
+            self.check_write_refusal(answer.outcome, before, free, request)?;
+        }
+        if answer.outcome.refusal != 0 {
+            return Ok(answer.outcome);
+        }
+        let first = self.unused_contents;
+        let contents = |l: u32| first + u64::from(l - start);
+        self.flash.write(&answer.words, contents).map_err(|fault| fault.to_string())?;
+        for l in start..start + count {
+            self.contents[l as usize] = Some(contents(l));
+        }
+        self.unused_contents += u64::from(count);
+        self.check_after_change()?;
+        self.check_sent_again(request)?;
+        Ok(answer.outcome)
+    }
+
+    /// Refusals 3, 4 and 5 exactly when the rules say; 6 never with a slot for
+    /// every logical page, 7 never with as much room as any answer needs.
+    fn check_write_refusal(&self, outcome: Outcome, before: Head, free: u32, request: Request) -> Checked {
+        let Request::Write { number, start, count } = request else {
+            return Ok(());
+        };
+        let out_of_range = count == 0
+            || u64::from(start) + u64::from(count) > u64::from(before.logical)
+            || count > before.pages;
+        let first = [
+            (out_of_range, Refusal::Range),
+            (number <= before.last, Refusal::Applied),
+            (count > free, Refusal::NoPages),
+        ];
+        let expected = first.into_iter().find(|(applies, _)| *applies).map(|(_, refusal)| refusal.number());
+        match expected {
+            Some(number) => check(outcome.refusal == number, "a write has another refusal"),
+            None => {
+                let short = outcome.refusal == 7 && self.room < 3 * before.pages;
+                let slots = outcome.refusal == 6 && before.slots < before.logical;
+                check(outcome.refusal == 0 || short || slots, "a write is refused")
+            }
+        }
+    }
+
+    fn trim(&mut self, request: Request, start: u32, count: u32) -> Checked {
+        let answer = self.call(request)?;
+        if answer.outcome.refusal != 0 {
+            return Ok(());
+        }
+        self.contents[start as usize..(start + count) as usize].fill(None);
+        self.check_after_change()?;
+        self.check_sent_again(request)
+    }
+
+    fn read(&mut self, start: u32, count: u32) -> Checked {
+        let answer = self.call(Request::Read { start, count })?;
+        if answer.outcome.refusal != 0 {
+            return Ok(());
+        }
+        let entries = self.flash.read(&answer.words).map_err(|fault| fault.to_string())?;
+        let expected = &self.contents[start as usize..(start + count) as usize];
+        check(entries == expected, "a read has other contents")
+    }
+
+    fn reclaim(&mut self) -> Checked<Outcome> {
+        let before = self.head;
+        let answer = self.call(Request::Reclaim)?;
+        if answer.outcome.refusal != 0 {
+            return Ok(answer.outcome);
+        }
+        let done = self.flash.reclaim(&answer.words, before.reserve, self.head.reserve);
+        done.map_err(|fault| fault.to_string())?;
+        check(self.head.used <= before.used, "a reclaim raised the count of extents")?;
+        check(self.head.last == before.last, "a reclaim changed the last number")?;
+        self.check_after_change()?;
+        Ok(answer.outcome)
+    }
+
+    fn check_after_change(&mut self) -> Checked {
+        if !self.thorough {
+            return Ok(());
+        }
+        let counts = self.report()?;
+        let all = (self.head.blocks - 1) * self.head.pages;
+        check(counts.free + counts.live + counts.stale == all, "free + live + stale is not (B-1) x N")?;
+        let live = self.contents.iter().filter(|entry| entry.is_some()).count();
+        check(counts.live as usize == live, "live is not the count of pages that hold something")?;
+        let mut buffer = vec![0; 3 * self.head.logical as usize];
+        let read = self.layer.read(self.head, &self.words, 0, self.head.logical, &mut buffer);
+        check(read.refusal == 0, "a read of all pages is refused")?;
+        let entries =
+            self.flash.read(&buffer[..3 * read.count as usize]).map_err(|fault| fault.to_string())?;
+        check(entries == self.contents, "a page reads as something else")
+    }
+
+    fn check_sent_again(&mut self, request: Request) -> Checked {
+        if !self.thorough {
+            return Ok(());
+        }
+        let again = self.call(request)?;
+        check(again.outcome.refusal == Refusal::Applied.number(), "a request sent again is not refused 4")
+    }
+
+    /// Demand 3: the write of these pages is accepted after at most B-1 reclaims.
+    /// Says nothing of a device that demand 3 says nothing of.
+    pub fn check_demand_3(mut self, start: u32, count: u32) -> Checked {
+        let head = self.head;
+        let slots = head.used + count < head.slots || head.slots >= head.logical;
+        if !slots || head.last == u64::MAX {
+            return Ok(());
+        }
+        self.room = head.pages;
+        // On a large device all pages are read at the end alone.
+        self.thorough = head.blocks * head.pages <= 4096;
+        let mut reclaims = 0;
+        while self.reclaim()?.refusal == 0 {
+            reclaims += 1;
+            check(reclaims < head.blocks, "more than B-1 reclaims")?;
+        }
+        check(self.report()?.stale == 0, "reclaim stopped with pages stale")?;
+        self.thorough = true;
+        self.room = 3 * head.pages;
+        let write = self.write(Request::Write { number: head.last + 1, start, count }, start, count)?;
+        check(write.refusal == 0, "the write is refused after reclaiming")
+    }
+}
+
+/// Runs so many random calls after the history of a host, demand 3 tried about
+/// every twentieth, and counts how often each refusal was given, from fresh on.
+///
+/// # Panics
+/// If something does not hold: with the shortest history that shows it, as a
+/// request list.
+pub fn history<L: Layer + Clone>(layer: L, random: &mut Random, begun: &[Request], calls: u32) -> [u64; 9] {
+    let mut history = begun.to_vec();
+    let mut host = Host::replay(layer.clone(), &history, false).unwrap_or_else(|what| panic!("{what}"));
+    let replays = |list: &[Request]| Host::replay(layer.clone(), list, true).map(|_| ());
+    for _ in 0..calls {
+        let head = host.head();
+        for request in generate::call(random, head) {
+            history.push(request);
+            if host.run(request).is_err() {
+                fail(&history, replays);
+            }
+        }
+        if random.once_in(20) {
+            let count = random.between(1, head.pages.min(head.logical));
+            let start = random.between(0, head.logical - count);
+            if host.clone().check_demand_3(start, count).is_err() {
+                fail(&history, |list| Host::replay(layer.clone(), list, true)?.check_demand_3(start, count));
+            }
+        }
+    }
+    host.given()
+}
