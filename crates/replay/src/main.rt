@@ -1,0 +1,5 @@
+mod device;
+mod line;
+mod word;
+
+fn main() {}
