@@ -27,6 +27,7 @@ pub struct Device {
 
 // What is printed for a request. The words of a list of pieces or of copied pages stand in the answer buffer.
 pub enum Answer {
+    Nothing,
     Ok,
     Refused(Refusal),
     Pieces(u32),

@@ -1,3 +1,5 @@
+mod session;
+mod print;
 mod device;
 mod line;
 mod word;

@@ -1,23 +1,15 @@
 -- `replay::device::within` answers no more than the length.
 -- Assumes nothing.
-use Prim.Native.Nat.{ℕ, _≤_}
-use mathlib.Core.Path.{_≡_, sym}
-use mathlib.Core.List.{List}
 use native.Mathlib.Omega.{arith}
-use lib.ListN.{length}
-use lib.Seq.{length-take-le}
-use Rattle.io.specs.Counts.{Counts}
+use Rattle.replay.proofs.Parts.{whole}
 use Rattle.replay.proofs.device.within.Statement.{statement}
 use Rattle.replay.proofs.device.within.Tie as tie
 
-counts : (n : ℕ) (xs : List ℕ) → n ≤ length xs → Counts n xs
-counts n xs h = (h, sym (length-take-le n xs h))
-
 returns : tie.Need-returns
-returns c = counts _ _ (omega arith)
+returns c = (omega arith, whole _ _ (omega arith))
 
 returns-2 : tie.Need-returns-2
-returns-2 c = counts _ _ (omega arith)
+returns-2 c = (omega arith, whole _ _ (omega arith))
 
 pub within-spec : {M : Type 1} → statement M
 within-spec = tie.close (tie.spec returns returns-2)
