@@ -22,7 +22,11 @@ impl Sink {
     }
 
     // Writes what waits.
-    pub fn flushed(mut self, page: &[u8]) -> Self {
+    pub fn flushed(self, page: &[u8; 4096]) -> Self {
+        self.emptied(page)
+    }
+
+    fn emptied(mut self, page: &[u8]) -> Self {
         let n = self.waiting;
         self.waiting = 0;
         if n > page.len() {
@@ -95,7 +99,9 @@ impl Sink {
 
     // The line that says what is wrong with line `number`.
     pub fn wrong(self, page: &mut [u8; 4096], number: u64, wrong: Wrong) -> Self {
-        let s = self.text(page, b"line").word(page, number).text(page, b": ");
+        let s = self.text(page, b"line")
+            .word(page, number)
+            .text(page, b": ");
         match wrong {
             Wrong::Spaces => s.text(page, b"words not separated by single spaces\n"),
             Wrong::Unknown => s.text(page, b"unknown request\n"),
@@ -104,10 +110,14 @@ impl Sink {
             Wrong::NoBuffer => s.text(page, b"word 2 is not extents, blocks or spare\n"),
             Wrong::NoField => s.text(page, b"word 2 is not a field of the head\n"),
             Wrong::NotANumber(place) => {
-                s.text(page, b"word").word(page, place).text(page, b" is not a number\n")
+                s.text(page, b"word")
+                    .word(page, place)
+                    .text(page, b" is not a number\n")
             }
             Wrong::TooLarge(place) => {
-                s.text(page, b"word").word(page, place).text(page, b" is too large\n")
+                s.text(page, b"word")
+                    .word(page, place)
+                    .text(page, b" is too large\n")
             }
             Wrong::Sizes => s.text(page, b"sizes beyond what this program holds\n"),
             Wrong::Index => s.text(page, b"index outside\n"),
@@ -117,13 +127,19 @@ impl Sink {
     // A list of the answer buffer: its count, and then its words, of which there are none but in the buffer.
     pub fn list(self, page: &mut [u8; 4096], out: &[u32], count: u32, words: usize) -> Self {
         let n = within(words, out);
-        self.text(page, b"ok").word(page, count as u64).words(page, &out[..n])
+        self.text(page, b"ok")
+            .word(page, count as u64)
+            .words(page, &out[..n])
     }
 
     pub fn head(self, page: &mut [u8; 4096], head: Head) -> Self {
-        let s = self.text(page, b"head").word(page, head.blocks as u64).word(page, head.pages as u64);
-        let s = s.word(page, head.logical as u64).word(page, head.slots as u64);
-        let s = s.word(page, head.used as u64).word(page, head.reserve as u64);
+        let s = self.text(page, b"head")
+            .word(page, head.blocks as u64)
+            .word(page, head.pages as u64);
+        let s = s.word(page, head.logical as u64)
+            .word(page, head.slots as u64);
+        let s = s.word(page, head.used as u64)
+            .word(page, head.reserve as u64);
         s.word(page, head.last).byte(page, b'\n')
     }
 
@@ -133,7 +149,9 @@ impl Sink {
     }
 
     pub fn counts(self, page: &mut [u8; 4096], free: u32, live: u32, stale: u32) -> Self {
-        let s = self.text(page, b"ok").word(page, free as u64).word(page, live as u64);
+        let s = self.text(page, b"ok")
+            .word(page, free as u64)
+            .word(page, live as u64);
         s.word(page, stale as u64).byte(page, b'\n')
     }
 }

@@ -99,7 +99,14 @@ fn done(
             let b = within(d.blocks, blk);
             let s = within(d.spare, spare);
             let r = within(d.room, out);
-            called(d, asked, &mut ext[..e], &mut blk[..b], &mut spare[..s], &mut out[..r])
+            called(
+                d,
+                asked,
+                &mut ext[..e],
+                &mut blk[..b],
+                &mut spare[..s],
+                &mut out[..r],
+            )
         }
     }
 }
@@ -146,11 +153,15 @@ fn shown(
         Answer::Ok => sink.text(page, b"ok\n"),
         Answer::Refused(refusal) => sink.refused(page, refusal),
         Answer::Pieces(count) => {
-            sink.list(page, out, count, 3 * count as usize).byte(page, b'\n')
+            sink.list(page, out, count, 3 * count as usize)
+                .byte(page, b'\n')
         }
         Answer::Copied(count, block) => {
             let listed = sink.list(page, out, count, count as usize);
-            listed.text(page, b" erase").word(page, block as u64).byte(page, b'\n')
+            listed
+                .text(page, b" erase")
+                .word(page, block as u64)
+                .byte(page, b'\n')
         }
         Answer::Counts(free, live, stale) => sink.counts(page, free, live, stale),
         Answer::State => state(sink, page, d, ext, blk, spare),

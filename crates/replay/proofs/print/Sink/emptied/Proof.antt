@@ -1,10 +1,10 @@
--- `replay::print::Sink::flushed` is safe: the part that it writes lies within the page.
+-- `replay::print::Sink::emptied` is safe: the part that it writes lies within the page.
 -- Assumes nothing.
 use borrow.Author.Needs.{needs}
 use native.Mathlib.Omega.{arith}
 use Rattle.replay.proofs.Parts.{whole}
-use Rattle.replay.proofs.print.Sink.flushed.Statement.{statement}
-use Rattle.replay.proofs.print.Sink.flushed.Tie as tie
+use Rattle.replay.proofs.print.Sink.emptied.Statement.{statement}
+use Rattle.replay.proofs.print.Sink.emptied.Tie as tie
 
 returns : tie.Need-returns
 returns c = search needs
@@ -21,6 +21,6 @@ returns-2 c = search needs
 returns-3 : tie.Need-returns-3
 returns-3 c = search needs
 
-pub flushed-spec : {M : Type 1} → statement M
-flushed-spec =
+pub emptied-spec : {M : Type 1} → statement M
+emptied-spec =
     tie.close (tie.spec returns slice-aggregate-write-all write-all-requires returns-2 returns-3)
