@@ -36,19 +36,19 @@ impl Accounts {
         let valid = self.valid;
         say::text(when);
         say::text(b"valid ");
-        say::number(valid[0]);
+        say::word(valid[0]);
         say::text(b" ");
-        say::number(valid[1]);
+        say::word(valid[1]);
         say::text(b" ");
-        say::number(valid[2]);
+        say::word(valid[2]);
         say::text(b" ");
-        say::number(valid[3]);
+        say::word(valid[3]);
         say::text(b"   free ");
-        say::number(self.free);
+        say::word(self.free);
         say::text(b"   live ");
-        say::number(self.live);
+        say::word(self.live);
         say::text(b"   stale ");
-        say::number(self.stale);
+        say::word(self.stale);
         say::text(b"\n");
     }
 

@@ -1,5 +1,6 @@
 // The simulated flash, 4 blocks of 4 pages, and what the host does to it: exactly what an answer lists. A page holds a sum in cents, or
 // is erased. The book is what the host wants written, a sum for each logical page; logical page 0 is line 4414 of the accounts.
+ghost use Prim.Native.Nat.{_≤_};
 use crate::say;
 
 pub const ERASED: u32 = 4294967295;
@@ -39,7 +40,7 @@ fn program_page(flash: &mut [u32; 16], book: &[u32; 8], logical: usize, physical
     }
     flash[physical] = book[logical];
     say::text(b"     page ");
-    say::number(physical as u32);
+    say::number(physical as u64);
     say::text(b": ");
     say::line(FIRST_LINE + logical as u32, book[logical]);
     say::text(b"\n");
@@ -70,9 +71,9 @@ fn copy_page(flash: &mut [u32; 16], from: u32, to: usize) {
     let cents = flash[from as usize];
     flash[to] = cents;
     say::text(b"     page ");
-    say::number(from);
+    say::word(from);
     say::text(b" is copied to page ");
-    say::number(to as u32);
+    say::number(to as u64);
     say::text(b": ");
     say::money(cents);
     say::text(b"\n");
@@ -85,7 +86,7 @@ pub fn erase(flash: &mut [u32; 16], block: u32) {
         o += 1;
     }
     say::text(b"     block ");
-    say::number(block);
+    say::word(block);
     say::text(b" is erased and becomes the reserve\n");
 }
 
@@ -96,44 +97,36 @@ fn erase_page(flash: &mut [u32; 16], page: usize) {
 }
 
 // The pieces of a read's answer, each page held to the book. Answers how many are as they were written.
-pub fn compare(flash: &[u32; 16], book: &[u32; 8], out: &[u32; 12], pieces: u32) -> u32 {
-    let mut right: u32 = 0;
+pub fn compare(flash: &[u32; 16], book: &[u32; 8], out: &[u32; 12], pieces: u32) -> u64 {
+    let mut right: u64 = 0;
     let mut i: u32 = 0;
     while i < pieces {
         if i >= 4 {
             return right;
         }
         let at = 3 * i as usize;
-        right = more(
-            right,
-            compare_piece(flash, book, out[at], out[at + 1], out[at + 2]),
-        );
+        right += compare_piece(flash, book, out[at], out[at + 1], out[at + 2]) as u64;
         i += 1;
     }
     right
 }
 
-fn compare_piece(
-    flash: &[u32; 16],
-    book: &[u32; 8],
-    logical: u32,
-    physical: u32,
-    count: u32,
-) -> u32 {
+fn compare_piece(flash: &[u32; 16], book: &[u32; 8], logical: u32, physical: u32, count: u32) -> u32
+    ensures { λ r. ⌜ r ≤ count ⌝ }
+{
     let mut right: u32 = 0;
     let mut k: u32 = 0;
     while k < count {
-        right = more(
-            right,
-            compare_page(flash, book, sum(logical, k), sum(physical, k)),
-        );
+        right += compare_page(flash, book, sum(logical, k), sum(physical, k));
         k += 1;
     }
     right
 }
 
 // 1 where the page holds what was written, and 0 where it does not.
-fn compare_page(flash: &[u32; 16], book: &[u32; 8], logical: usize, physical: usize) -> u32 {
+fn compare_page(flash: &[u32; 16], book: &[u32; 8], logical: usize, physical: usize) -> u32
+    ensures { λ r. ⌜ r ≤ 1 ⌝ }
+{
     if logical >= 8 {
         return 0;
     }
@@ -144,7 +137,7 @@ fn compare_page(flash: &[u32; 16], book: &[u32; 8], logical: usize, physical: us
     say::text(b"     ");
     say::line(FIRST_LINE + logical as u32, flash[physical]);
     say::text(b"   from page ");
-    say::number(physical as u32);
+    say::number(physical as u64);
     if flash[physical] != book[logical] {
         say::text(b", NOT as written\n");
         return 0;
@@ -159,13 +152,4 @@ fn sum(a: u32, b: u32) -> usize {
 
 fn page_of(block: u32, offset: u32) -> usize {
     4 * block as usize + offset as usize
-}
-
-fn more(a: u32, b: u32) -> u32 {
-    if a < 1000 {
-        if b < 1000 {
-            return a + b;
-        }
-    }
-    a
 }

@@ -7,29 +7,34 @@ pub fn text(text: &[u8]) {
     io::write_all(STDOUT_FILENO, text);
 }
 
-pub fn number(n: u32) {
-    io::print_decimal(STDOUT_FILENO, n as u64);
+pub fn number(n: u64) {
+    io::print_decimal(STDOUT_FILENO, n);
+}
+
+pub fn word(n: u32) {
+    number(n as u64);
 }
 
 // 1820 as 18.20.
 pub fn money(cents: u32) {
-    number(cents / 100);
+    let c = cents as u64;
+    number(c / 100);
     text(b".");
-    number(cents % 100 / 10);
-    number(cents % 10);
+    number(c % 100 / 10);
+    number(c % 10);
 }
 
 // A line of the account book and its sum.
-pub fn line(number_of_line: u32, cents: u32) {
+pub fn line(line: u32, cents: u32) {
     text(b"line ");
-    number(number_of_line);
+    word(line);
     text(b"   ");
     money(cents);
 }
 
 pub fn refused(refusal: Refusal) {
     text(b"     refused ");
-    number(number_of(refusal));
+    word(number_of(refusal));
     match refusal {
         Refusal::Shape => text(b", Shape\n"),
         Refusal::Damaged => text(b", Damaged\n"),

@@ -1,12 +1,12 @@
--- `refund::flash::compare` is safe and ends: the measure is what is left of the list.
+-- `refund::flash::compare` is safe and ends. The invariant bounds the count, so that the sum fits; the measure is what is left of the list.
 -- Assumes nothing.
-use Prim.Native.Nat.{_-_}
+use Prim.Native.Nat.{_≤_, _-_, _*_, _^_}
 use borrow.Author.Needs.{needs}
 use Rattle.refund.proofs.flash.compare.Statement.{statement}
 use Rattle.refund.proofs.flash.compare.Tie as tie
 
 abbrev Inv-loop : tie.InvT-loop
-Inv-loop flash book out pieces right₀ i₀ right i = Unit {0}
+Inv-loop flash book out pieces right₀ i₀ right i = right ≤ 2 ^ 32 * i
 
 abbrev μ-loop : tie.MeasureT-loop
 μ-loop flash book out pieces right₀ i₀ right i = pieces - i
@@ -50,8 +50,11 @@ element-copy-out-compare-piece-3 c = search needs
 compare-piece-requires : tie.Need-compare-piece-requires Inv-loop μ-loop
 compare-piece-requires c κs = search needs
 
-more-requires : tie.Need-more-requires Inv-loop μ-loop
-more-requires c κs = search needs
+cast-right : tie.Need-cast-right Inv-loop μ-loop
+cast-right c = search needs
+
+add-right : tie.Need-add-right Inv-loop μ-loop
+add-right c = search needs
 
 add-i : tie.Need-add-i Inv-loop μ-loop
 add-i c = search needs
@@ -84,7 +87,8 @@ compare-spec =
     mul-compare-piece-3
     element-copy-out-compare-piece-3
     compare-piece-requires
-    more-requires
+    cast-right
+    add-right
     add-i
     loop-less
     loop-again

@@ -1,12 +1,12 @@
--- `refund::flash::compare_piece` is safe and ends: the measure is what is left of the piece.
--- Assumes nothing.
-use Prim.Native.Nat.{_-_}
+-- `refund::flash::compare_piece` counts no more than its pages. The invariant: no more are right than were looked at; the measure is what is
+-- left of the piece. Assumes nothing.
+use Prim.Native.Nat.{_≤_, _-_}
 use borrow.Author.Needs.{needs}
 use Rattle.refund.proofs.flash.compare_piece.Statement.{statement}
 use Rattle.refund.proofs.flash.compare_piece.Tie as tie
 
 abbrev Inv-loop : tie.InvT-loop
-Inv-loop flash book logical physical count right₀ k₀ right k = Unit {0}
+Inv-loop flash book logical physical count right₀ k₀ right k = (right ≤ k) × (k ≤ count)
 
 abbrev μ-loop : tie.MeasureT-loop
 μ-loop flash book logical physical count right₀ k₀ right k = count - k
@@ -23,8 +23,8 @@ sum-requires-2 c κs = search needs
 compare-page-requires : tie.Need-compare-page-requires Inv-loop μ-loop
 compare-page-requires c κs = search needs
 
-more-requires : tie.Need-more-requires Inv-loop μ-loop
-more-requires c κs = search needs
+add-right : tie.Need-add-right Inv-loop μ-loop
+add-right c = search needs
 
 add-k : tie.Need-add-k Inv-loop μ-loop
 add-k c = search needs
@@ -48,7 +48,7 @@ compare-piece-spec =
     sum-requires
     sum-requires-2
     compare-page-requires
-    more-requires
+    add-right
     add-k
     loop-less
     loop-again

@@ -35,8 +35,8 @@ slice-aggregate-text c = search needs
 text-requires : tie.Need-text-requires Inv-loop μ-loop
 text-requires c κs = search needs
 
-number-requires : tie.Need-number-requires Inv-loop μ-loop
-number-requires c κs = search needs
+word-requires : tie.Need-word-requires Inv-loop μ-loop
+word-requires c κs = search needs
 
 slice-aggregate-text-2 : tie.Need-slice-aggregate-text-2 Inv-loop μ-loop
 slice-aggregate-text-2 c = search needs
@@ -61,7 +61,7 @@ erase-spec =
     loop-again
     slice-aggregate-text
     text-requires
-    number-requires
+    word-requires
     slice-aggregate-text-2
     text-requires-2
     returns)
