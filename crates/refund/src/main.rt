@@ -68,11 +68,11 @@ fn first(
     number: u64,
     start: u32,
     count: u32,
-) -> Head {
+) -> Sent {
     let sent = send(head, ext, blk, spare, flash, book, number, start, count);
     let after = sent.head;
     Accounts::now(after, ext, blk, spare).say(b"     ");
-    after
+    sent
 }
 
 // Sends a write again, and holds the accounts after it to those before.
@@ -101,13 +101,15 @@ fn again(
     sent
 }
 
-// The lines that the accounts showed when the write was applied twice.
-fn booked(is_accepted: bool) {
-    say::text(b"     line 4417   09:14:07   refund   18.20   booked\n");
+// A line that the accounts showed when the write was applied twice: 4417 for the first time, 4418 for the second.
+fn refund(line: u64, is_accepted: bool) {
+    say::text(b"     line ");
+    say::number(line);
+    say::text(b"   09:14:07   refund   18.20   ");
     if is_accepted {
-        say::text(b"     line 4418   09:14:07   refund   18.20   BOOKED AGAIN\n");
+        say::text(b"booked\n");
     } else {
-        say::text(b"     line 4418   09:14:07   refund   18.20   refused\n");
+        say::text(b"refused\n");
     }
 }
 
@@ -179,8 +181,9 @@ fn backup(
     say::text(b"\n1. Lines 4414 to 4417 are backed up: write number 1.\n");
     let one = first(head, ext, blk, spare, flash, book, 1, 0, 4);
     say::text(b"\n2. The host crashes. It has heard no answer, and sends write number 1 again.\n");
-    let twice = again(one, ext, blk, spare, flash, book, 1, 0, 4);
-    booked(twice.is_accepted);
+    let twice = again(one.head, ext, blk, spare, flash, book, 1, 0, 4);
+    refund(4417, one.is_accepted);
+    refund(4418, twice.is_accepted);
     book[1] = 1290;
     book[2] = 6150;
     say::text(b"\n3. Lines 4415 and 4416 are corrected: write number 2.\n");
@@ -188,7 +191,7 @@ fn backup(
     say::text(
         b"\n4. The host crashes, and sends write number 2 again. Struck off twice, block 0 would look empty.\n",
     );
-    let still = again(two, ext, blk, spare, flash, book, 2, 1, 2);
+    let still = again(two.head, ext, blk, spare, flash, book, 2, 1, 2);
     still.head
 }
 
@@ -204,7 +207,7 @@ fn anew(
     say::text(b"\n7. The same lines are sent with a number never used: write number 3.\n");
     let three = first(head, ext, blk, spare, flash, book, 3, 0, 4);
     say::text(b"\n8. Write number 3 is sent again.\n");
-    let still = again(three, ext, blk, spare, flash, book, 3, 0, 4);
+    let still = again(three.head, ext, blk, spare, flash, book, 3, 0, 4);
     still.head
 }
 

@@ -1,5 +1,4 @@
 // Answers on their way to standard output, a page of bytes at a time.
-ghost use Rattle.io.specs.Counts.{Counts};
 use crate::device::within;
 use crate::line::Wrong;
 use libc::STDOUT_FILENO;
