@@ -1,0 +1,266 @@
+// What is lent from line to line, and the request of each kind that changes it. No fact about what the layer answers is counted on.
+ghost use Rattle.io.specs.Counts.{Counts};
+use crate::line;
+use crate::line::Wrong;
+use crate::word;
+use rules::Counted;
+use rules::Done;
+use rules::Head;
+use rules::Listed;
+use rules::Refusal;
+
+// The most of B x N and of M that is held, and as much room as any answer needs: a read of single pages.
+pub const MOST_PAGES: usize = 4096;
+
+pub const MOST_SLOTS: usize = 1024;
+
+pub const MOST_ROOM: usize = 12288;
+
+// The head, and how many words of each buffer are lent.
+pub struct Device {
+    pub head: Head,
+    pub extents: usize,
+    pub blocks: usize,
+    pub spare: usize,
+    pub room: usize,
+}
+
+// What is printed for a request. The words of a list of pieces or of copied pages stand in the answer buffer.
+pub enum Answer {
+    Nothing,
+    Ok,
+    Refused(Refusal),
+    Pieces(u32),
+    Copied(u32, u32),
+    Counts(u32, u32, u32),
+    State,
+    Wrong(Wrong),
+}
+
+pub struct Step {
+    pub device: Device,
+    pub answer: Answer,
+}
+
+impl Device {
+    // Before the first accepted fresh nothing is lent.
+    pub fn new() -> Self {
+        Self {
+            head: Head {
+                blocks: 0,
+                pages: 0,
+                logical: 0,
+                slots: 0,
+                used: 0,
+                reserve: 0,
+                last: 0,
+            },
+            extents: 0,
+            blocks: 0,
+            spare: 0,
+            room: MOST_ROOM,
+        }
+    }
+
+    pub fn says(self, answer: Answer) -> Step {
+        Step {
+            device: self,
+            answer: answer,
+        }
+    }
+
+    fn headed(mut self, head: Head) -> Self {
+        self.head = head;
+        self
+    }
+
+    pub fn room(mut self, words: u32) -> Step {
+        let room = words as usize;
+        self.room = if room < MOST_ROOM { room } else { MOST_ROOM };
+        self.says(Answer::Ok)
+    }
+
+    pub fn head(mut self, field: u64, value: u64) -> Step {
+        let mut head = self.head;
+        let word = line::short(value);
+        match field {
+            word::BLOCKS => head.blocks = word,
+            word::PAGES => head.pages = word,
+            word::LOGICAL => head.logical = word,
+            word::SLOTS => head.slots = word,
+            word::USED => head.used = word,
+            word::RESERVE => head.reserve = word,
+            _ => head.last = value,
+        }
+        self.headed(head).says(Answer::Ok)
+    }
+
+    // An accepted fresh decides how many words are lent from then on.
+    fn begun(mut self, done: Done, extents: usize, blocks: usize, spare: usize) -> Step {
+        match done {
+            Done::Accepted(head) => {
+                self.extents = extents;
+                self.blocks = blocks;
+                self.spare = spare;
+                self.headed(head).says(Answer::Ok)
+            }
+            Done::Refused(refusal, head) => self.says(Answer::Refused(refusal)),
+        }
+    }
+
+    fn done(self, done: Done) -> Step {
+        match done {
+            Done::Accepted(head) => self.headed(head).says(Answer::Ok),
+            Done::Refused(refusal, head) => self.headed(head).says(Answer::Refused(refusal)),
+        }
+    }
+
+    fn pieces(self, listed: Listed) -> Step {
+        match listed {
+            Listed::Accepted(pieces, head) => self.headed(head).says(Answer::Pieces(pieces)),
+            Listed::Refused(refusal, head) => self.headed(head).says(Answer::Refused(refusal)),
+        }
+    }
+
+    // The new head names the block to erase.
+    fn copied(self, listed: Listed) -> Step {
+        match listed {
+            Listed::Accepted(pages, head) => {
+                let erase = head.reserve;
+                self.headed(head).says(Answer::Copied(pages, erase))
+            }
+            Listed::Refused(refusal, head) => self.headed(head).says(Answer::Refused(refusal)),
+        }
+    }
+
+    fn counted(self, counted: Counted) -> Step {
+        match counted {
+            Counted::Accepted(free, live, stale, head) => {
+                self.headed(head).says(Answer::Counts(free, live, stale))
+            }
+            Counted::Refused(refusal, head) => self.headed(head).says(Answer::Refused(refusal)),
+        }
+    }
+}
+
+// ---- the calls
+
+pub fn write(
+    d: Device,
+    ext: &mut [u32],
+    blk: &mut [u32],
+    spare: &mut [u32],
+    out: &mut [u32],
+    number: u64,
+    start: u32,
+    count: u32,
+) -> Step {
+    let head = d.head;
+    let listed = layer::write(head, ext, blk, spare, number, start, count, out);
+    d.pieces(listed)
+}
+
+pub fn trim(
+    d: Device,
+    ext: &mut [u32],
+    blk: &mut [u32],
+    spare: &[u32],
+    number: u64,
+    start: u32,
+    count: u32,
+) -> Step {
+    let head = d.head;
+    let done = layer::trim(head, ext, blk, spare, number, start, count);
+    d.done(done)
+}
+
+pub fn read(
+    d: Device,
+    ext: &[u32],
+    blk: &[u32],
+    spare: &[u32],
+    out: &mut [u32],
+    start: u32,
+    count: u32,
+) -> Step {
+    let head = d.head;
+    let listed = layer::read(head, ext, blk, spare, start, count, out);
+    d.pieces(listed)
+}
+
+pub fn reclaim(
+    d: Device,
+    ext: &mut [u32],
+    blk: &mut [u32],
+    spare: &mut [u32],
+    out: &mut [u32],
+) -> Step {
+    let head = d.head;
+    let listed = layer::reclaim(head, ext, blk, spare, out);
+    d.copied(listed)
+}
+
+pub fn report(d: Device, ext: &[u32], blk: &[u32], spare: &[u32]) -> Step {
+    let head = d.head;
+    let counted = layer::report(head, ext, blk, spare);
+    d.counted(counted)
+}
+
+// Sizes that are not held are no request. Only N = 0, which is refused whatever the lengths, leaves B without a bound: then no
+// more blocks are lent than are held. A refused fresh changes no word, and the device from before stays.
+pub fn fresh(
+    d: Device,
+    ext: &mut [u32],
+    blk: &mut [u32],
+    spare: &mut [u32],
+    blocks: u32,
+    pages: u32,
+    logical: u32,
+    slots: u32,
+) -> Step {
+    let all = product(blocks, pages);
+    if all > MOST_PAGES as u64 {
+        return d.says(Answer::Wrong(Wrong::Sizes));
+    }
+    if slots > MOST_SLOTS as u32 {
+        return d.says(Answer::Wrong(Wrong::Sizes));
+    }
+    let e = within(3 * slots as usize, ext);
+    let b = within(2 * blocks as usize, blk);
+    let s = within(all as usize, spare);
+    let done = layer::fresh(
+        blocks,
+        pages,
+        logical,
+        slots,
+        &mut ext[..e],
+        &mut blk[..b],
+        &mut spare[..s],
+    );
+    d.begun(done, e, b, s)
+}
+
+// ---- changes to what is lent
+
+// Sets the word at index.
+pub fn poke(d: Device, words: &mut [u32], index: u32, value: u32) -> Step {
+    let i = index as usize;
+    if i >= words.len() {
+        return d.says(Answer::Wrong(Wrong::Index));
+    }
+    words[i] = value;
+    d.says(Answer::Ok)
+}
+
+// ---- lengths
+
+// The number from 0 to the length of words that is nearest to n.
+pub fn within(n: usize, words: &[u32]) -> usize
+    ensures { λ r. ⌜ Counts r (now (words .entry)) ⌝ }
+{
+    if n < words.len() { n } else { words.len() }
+}
+
+fn product(a: u32, b: u32) -> u64 {
+    a as u64 * b as u64
+}

@@ -1,0 +1,188 @@
+// One line after the other: what is asked is done to what is lent, and the answer printed.
+use crate::device;
+use crate::device::Answer;
+use crate::device::Device;
+use crate::device::Step;
+use crate::device::within;
+use crate::line::Asked;
+use crate::line::Line;
+use crate::print::Sink;
+use crate::word;
+
+pub struct Session {
+    pub line: Line,
+    // Lines that have ended.
+    pub lines: u64,
+    pub device: Device,
+    pub sink: Sink,
+}
+
+impl Session {
+    pub fn new() -> Self {
+        Self {
+            line: Line::new(),
+            lines: 0,
+            device: Device::new(),
+            sink: Sink::new(),
+        }
+    }
+
+    // Reads a byte of the list.
+    pub fn byte(
+        mut self,
+        ext: &mut [u32; 3072],
+        blk: &mut [u32; 8192],
+        spare: &mut [u32; 4096],
+        out: &mut [u32; 12288],
+        page: &mut [u8; 4096],
+        byte: u8,
+    ) -> Self {
+        if byte == b'\n' {
+            return self.line_end(ext, blk, spare, out, page);
+        }
+        let line = self.line;
+        let longer = line.with(byte);
+        self.line = longer;
+        self
+    }
+
+    // Answers the line that has ended.
+    pub fn line_end(
+        self,
+        ext: &mut [u32; 3072],
+        blk: &mut [u32; 8192],
+        spare: &mut [u32; 4096],
+        out: &mut [u32; 12288],
+        page: &mut [u8; 4096],
+    ) -> Self {
+        let line = self.line;
+        let before = self.device;
+        let sink = self.sink;
+        let lines = next(self.lines);
+        let step = done(before, line.asked(), ext, blk, spare, out);
+        let device = step.device;
+        let answer = step.answer;
+        let after = shown(sink, page, lines, device, answer, ext, blk, spare, out);
+        Session {
+            line: Line::new(),
+            lines: lines,
+            device: device,
+            sink: after,
+        }
+    }
+}
+
+fn next(lines: u64) -> u64 {
+    if lines < u64::MAX { lines + 1 } else { lines }
+}
+
+// What is asked, done. All but fresh are lent the words that the last accepted fresh decided on.
+fn done(
+    d: Device,
+    asked: Asked,
+    ext: &mut [u32],
+    blk: &mut [u32],
+    spare: &mut [u32],
+    out: &mut [u32],
+) -> Step {
+    match asked {
+        Asked::Nothing => d.says(Answer::Nothing),
+        Asked::Wrong(wrong) => d.says(Answer::Wrong(wrong)),
+        Asked::Fresh(blocks, pages, logical, slots) => {
+            device::fresh(d, ext, blk, spare, blocks, pages, logical, slots)
+        }
+        Asked::Room(words) => d.room(words),
+        Asked::Head(field, value) => d.head(field, value),
+        Asked::State => d.says(Answer::State),
+        _ => {
+            let e = within(d.extents, ext);
+            let b = within(d.blocks, blk);
+            let s = within(d.spare, spare);
+            let r = within(d.room, out);
+            called(
+                d,
+                asked,
+                &mut ext[..e],
+                &mut blk[..b],
+                &mut spare[..s],
+                &mut out[..r],
+            )
+        }
+    }
+}
+
+fn called(
+    d: Device,
+    asked: Asked,
+    ext: &mut [u32],
+    blk: &mut [u32],
+    spare: &mut [u32],
+    out: &mut [u32],
+) -> Step {
+    match asked {
+        Asked::Write(number, start, count) => {
+            device::write(d, ext, blk, spare, out, number, start, count)
+        }
+        Asked::Trim(number, start, count) => device::trim(d, ext, blk, spare, number, start, count),
+        Asked::Read(start, count) => device::read(d, ext, blk, spare, out, start, count),
+        Asked::Reclaim => device::reclaim(d, ext, blk, spare, out),
+        Asked::Report => device::report(d, ext, blk, spare),
+        Asked::Poke(buffer, index, value) => match buffer {
+            word::EXTENTS => device::poke(d, ext, index, value),
+            word::BLOCKS => device::poke(d, blk, index, value),
+            _ => device::poke(d, spare, index, value),
+        },
+        _ => d.says(Answer::Nothing),
+    }
+}
+
+// The answer to line `number`, printed.
+fn shown(
+    sink: Sink,
+    page: &mut [u8; 4096],
+    number: u64,
+    d: Device,
+    answer: Answer,
+    ext: &[u32],
+    blk: &[u32],
+    spare: &[u32],
+    out: &[u32],
+) -> Sink {
+    match answer {
+        Answer::Nothing => sink,
+        Answer::Ok => sink.text(page, b"ok\n"),
+        Answer::Refused(refusal) => sink.refused(page, refusal),
+        Answer::Pieces(count) => {
+            sink.list(page, out, count, 3 * count as usize)
+                .byte(page, b'\n')
+        }
+        Answer::Copied(count, block) => {
+            let listed = sink.list(page, out, count, count as usize);
+            listed
+                .text(page, b" erase")
+                .word(page, block as u64)
+                .byte(page, b'\n')
+        }
+        Answer::Counts(free, live, stale) => sink.counts(page, free, live, stale),
+        Answer::State => state(sink, page, d, ext, blk, spare),
+        Answer::Wrong(wrong) => sink.wrong(page, number, wrong),
+    }
+}
+
+fn state(
+    sink: Sink,
+    page: &mut [u8; 4096],
+    d: Device,
+    ext: &[u32],
+    blk: &[u32],
+    spare: &[u32],
+) -> Sink {
+    let e = within(d.extents, ext);
+    let b = within(d.blocks, blk);
+    let s = within(d.spare, spare);
+    let head = d.head;
+    sink.head(page, head)
+        .lent(page, b"extents", &ext[..e])
+        .lent(page, b"blocks", &blk[..b])
+        .lent(page, b"spare", &spare[..s])
+}
