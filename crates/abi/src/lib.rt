@@ -1,0 +1,166 @@
+// What C and Rust call: each call of the layer under its name in include/utasiro.h, with its answer as a struct by value. The promises are the
+// layer's, through what a struct says.
+use rules::Counted;
+use rules::Done;
+use rules::Head;
+use rules::Listed;
+ghost use mathlib.Core.Path.{_≡_};
+ghost use mathlib.Core.List.{[]};
+ghost use Rattle.rules.specs.Lent.{lent};
+ghost use Rattle.rules.specs.Answers.{outcome};
+ghost use Rattle.rules.specs.Calls.{Call, call, fresh};
+ghost use Rattle.abi.specs.Said.{ofDone, ofListed, ofCounts, saidDone, saidListed, saidCounts};
+
+// What fresh, write, trim, read and reclaim answer: the refusal's number, or 0; the count, 0 where there is none; the head.
+#[repr(C)]
+pub struct Outcome {
+    pub refusal: u32,
+    pub count: u32,
+    pub head: Head,
+}
+
+// What report answers.
+#[repr(C)]
+pub struct Counts {
+    pub refusal: u32,
+    pub free: u32,
+    pub live: u32,
+    pub stale: u32,
+    pub head: Head,
+}
+
+fn of_done(d: Done) -> Outcome
+    ensures { λ r. ⌜ saidDone r d ⌝ }
+{
+    match d {
+        Done::Accepted(h) => Outcome {
+            refusal: 0,
+            count: 0,
+            head: h,
+        },
+        Done::Refused(r, h) => Outcome {
+            refusal: rules::number_of(r),
+            count: 0,
+            head: h,
+        },
+    }
+}
+
+fn of_listed(d: Listed) -> Outcome
+    ensures { λ r. ⌜ saidListed r d ⌝ }
+{
+    match d {
+        Listed::Accepted(k, h) => Outcome {
+            refusal: 0,
+            count: k,
+            head: h,
+        },
+        Listed::Refused(r, h) => Outcome {
+            refusal: rules::number_of(r),
+            count: 0,
+            head: h,
+        },
+    }
+}
+
+fn of_counted(d: Counted) -> Counts
+    ensures { λ r. ⌜ saidCounts r d ⌝ }
+{
+    match d {
+        Counted::Accepted(f, l, s, h) => Counts {
+            refusal: 0,
+            free: f,
+            live: l,
+            stale: s,
+            head: h,
+        },
+        Counted::Refused(r, h) => Counts {
+            refusal: rules::number_of(r),
+            free: 0,
+            live: 0,
+            stale: 0,
+            head: h,
+        },
+    }
+}
+
+#[no_mangle]
+pub extern "C" fn utasiro_fresh(
+    blocks: u32,
+    pages: u32,
+    logical: u32,
+    slots: u32,
+    ext: &mut [u32],
+    blk: &mut [u32],
+    spare: &mut [u32],
+) -> Outcome
+    ensures { λ r. ⌜ (outcome (ofDone r) (now (ext .exit)) (now (blk .exit)) (now (spare .exit)) [] ≡ fresh blocks pages logical slots (now (ext .entry)) (now (blk .entry)) (now (spare .entry))) × (r .count ≡ 0) ⌝ }
+{
+    of_done(layer::fresh(blocks, pages, logical, slots, ext, blk, spare))
+}
+
+#[no_mangle]
+pub extern "C" fn utasiro_write(
+    h: Head,
+    ext: &mut [u32],
+    blk: &mut [u32],
+    spare: &mut [u32],
+    number: u64,
+    l: u32,
+    n: u32,
+    out: &mut [u32],
+) -> Outcome
+    ensures { λ r. ⌜ outcome (ofListed r) (now (ext .exit)) (now (blk .exit)) (now (spare .exit)) (now (out .exit)) ≡ call (Call.write number l n (now (out .entry))) (lent h (now (ext .entry)) (now (blk .entry)) (now (spare .entry))) ⌝ }
+{
+    of_listed(layer::write(h, ext, blk, spare, number, l, n, out))
+}
+
+#[no_mangle]
+pub extern "C" fn utasiro_trim(
+    h: Head,
+    ext: &mut [u32],
+    blk: &mut [u32],
+    spare: &[u32],
+    number: u64,
+    l: u32,
+    n: u32,
+) -> Outcome
+    ensures { λ r. ⌜ (outcome (ofDone r) (now (ext .exit)) (now (blk .exit)) (now (spare .entry)) [] ≡ call (Call.trim number l n) (lent h (now (ext .entry)) (now (blk .entry)) (now (spare .entry)))) × (r .count ≡ 0) ⌝ }
+{
+    of_done(layer::trim(h, ext, blk, spare, number, l, n))
+}
+
+#[no_mangle]
+pub extern "C" fn utasiro_read(
+    h: Head,
+    ext: &[u32],
+    blk: &[u32],
+    spare: &[u32],
+    l: u32,
+    n: u32,
+    out: &mut [u32],
+) -> Outcome
+    ensures { λ r. ⌜ outcome (ofListed r) (now (ext .entry)) (now (blk .entry)) (now (spare .entry)) (now (out .exit)) ≡ call (Call.read l n (now (out .entry))) (lent h (now (ext .entry)) (now (blk .entry)) (now (spare .entry))) ⌝ }
+{
+    of_listed(layer::read(h, ext, blk, spare, l, n, out))
+}
+
+#[no_mangle]
+pub extern "C" fn utasiro_reclaim(
+    h: Head,
+    ext: &mut [u32],
+    blk: &mut [u32],
+    spare: &mut [u32],
+    out: &mut [u32],
+) -> Outcome
+    ensures { λ r. ⌜ outcome (ofListed r) (now (ext .exit)) (now (blk .exit)) (now (spare .exit)) (now (out .exit)) ≡ call (Call.reclaim (now (out .entry))) (lent h (now (ext .entry)) (now (blk .entry)) (now (spare .entry))) ⌝ }
+{
+    of_listed(layer::reclaim(h, ext, blk, spare, out))
+}
+
+#[no_mangle]
+pub extern "C" fn utasiro_report(h: Head, ext: &[u32], blk: &[u32], spare: &[u32]) -> Counts
+    ensures { λ r. ⌜ outcome (ofCounts r) (now (ext .entry)) (now (blk .entry)) (now (spare .entry)) [] ≡ call Call.report (lent h (now (ext .entry)) (now (blk .entry)) (now (spare .entry))) ⌝ }
+{
+    of_counted(layer::report(h, ext, blk, spare))
+}
