@@ -161,22 +161,6 @@ utasiro_counts utasiro_report(utasiro_head head, const uint32_t *extents, size_t
                               const uint32_t *blocks, size_t blocks_len,
                               const uint32_t *spare, size_t spare_len);
 
-/* An extent slot as a record. */
-typedef struct {
-    uint32_t logical;
-    uint32_t physical;
-    uint32_t count;
-} utasiro_extent;
-
-/*
- * As utasiro_read, over extent records, exactly M of them: extents_len counts records.
- * The same answers and refusals.
- */
-utasiro_outcome utasiro_read_records(utasiro_head head, const utasiro_extent *extents, size_t extents_len,
-                                     const uint32_t *blocks, size_t blocks_len,
-                                     const uint32_t *spare, size_t spare_len,
-                                     uint32_t start, uint32_t count, uint32_t *answer, size_t answer_len);
-
 #ifdef __cplusplus
 }
 #endif
