@@ -45,3 +45,4 @@ pub mod Starts
 pub mod Demand2
 pub mod Demand3
 pub mod Spread
+pub mod Alike

@@ -10,22 +10,18 @@ use native.Mathlib.Decide.{decLt, ℕ-discrete}
 use borrow.Author.Tests.{eq-eqb, ne-eqb}
 use lib.Arith.{digits-lt, digits-div}
 use lib.Dec.{eqb}
-use lib.ListN.{length, getD, set, replicate, length-set, length-replicate}
-use lib.Seq.{sets, length-sets, getD-set-same, getD-set-other, set-set, set-comm}
+use lib.ListN.{length, getD, set, length-set}
+use lib.Seq.{sets, getD-set-same, getD-set-other}
 use Rattle.rules.specs.Counting.{one, count, tabulate}
 use Rattle.rules.specs.Extents.{none, extent, joinable, join, runs}
-use Rattle.rules.specs.Device.{Device, blocks, lines, at, fill, room, free, valid, mapped}
+use Rattle.rules.specs.Device.{Device, blocks, lines, fill, room, free}
 use Rattle.rules.specs.Placement.{putAt, putsAt, placesAt, target, targets, puts, places, pieces}
-use Rattle.rules.specs.Number.{withTable, trimmed}
 use Rattle.rules.specs.declared.Extent.{Extent}
 use Rattle.laws.specs.Bools.{cases, never}
-use Rattle.laws.specs.Sums.{sum-change, count-none, count-first}
+use Rattle.laws.specs.Sums.{sum-change, count-first}
 use Rattle.laws.specs.Runs.{Joined, joinable-true, joined-true, join-joined, join-apart, runs-page}
-use Rattle.laws.specs.Device.{Sound, none-block}
 use Rattle.laws.specs.Balance
-use Rattle.laws.specs.Lines.{trimmed-sound, trimmed-in}
-use Rattle.laws.specs.Placed.{Open, target-open, target-lowest, puts-table, length-targets, length-placed, targets-open}
-use Rattle.laws.specs.Valid.{puts-valid}
+use Rattle.laws.specs.Placed.{Open, target-open, target-lowest, length-targets}
 use Rattle.laws.specs.Counts.{runs-first}
 
 -- ---- what a block takes
@@ -435,107 +431,3 @@ pub puts-rise : (l n : ℕ) (d : Device) (c : ℕ) → c < blocks d → fill (pu
 unfolding puts
 puts-rise l n d c h =
     omega (arith, rises l (targets l n d) d c h, ap (λ (k : ℕ). count k (λ i. eqb (getD (targets l n d) i 0) c)) (length-targets l n d))
-
--- ---- placement reads no line of the table
-
-pub record Alike (d e : Device) : Type 0 where
-  pub pages : d .pages ≡ e .pages
-  pub fills : d .fills ≡ e .fills
-  pub spare : d .spare ≡ e .spare
-  pub reserve : d .reserve ≡ e .reserve
-
-module _ (d e : Device) (a : Alike d e) where
-  pub alike-free : free d ≡ free e
-  unfolding free room
-  alike-free = rw (a .pages, a .fills, a .reserve)
-
-  alike-target : target d ≡ target e
-  unfolding target
-  alike-target = rw (a .pages, a .fills, a .reserve)
-
-  alike-page : openPage d ≡ openPage e
-  alike-page = rw (alike-target, a .pages, a .fills)
-
-  alike-next : (l : ℕ) → Alike (next l d) (next l e)
-  unfolding putAt
-  alike-next l = record {
-    pages = a .pages;
-    fills = rw (alike-target, a .fills);
-    spare = ap₂ (λ (s : List ℕ) (p : ℕ). set s p l) (a .spare) alike-page;
-    reserve = a .reserve;
-  }
-
-pub alike-targets : (l n : ℕ) (d e : Device) → Alike d e → targets l n d ≡ targets l n e
-unfolding targets
-alike-targets l zero d e a = refl
-alike-targets l (suc n) d e a = ap₂ (λ (b : ℕ) (r : List ℕ). b ∷ r) (alike-target d e a) (alike-targets (suc l) n (next l d) (next l e) (alike-next d e a l))
-
-pub alike-places : (l n : ℕ) (d e : Device) → Alike d e → places l n d ≡ places l n e
-unfolding places placesAt targets
-alike-places l zero d e a = refl
-alike-places l (suc n) d e a =
-    ap₂ (λ (p : ℕ) (r : List ℕ). p ∷ r) (alike-page d e a) (alike-places (suc l) n (next l d) (next l e) (alike-next d e a l))
-
-pub alike-puts : (l n : ℕ) (d e : Device) → Alike d e → Alike (puts l n d) (puts l n e)
-unfolding puts putsAt targets
-alike-puts l zero d e a = a
-alike-puts l (suc n) d e a = alike-puts (suc l) n (next l d) (next l e) (alike-next d e a l)
-
-pub alike-pieces : (l n : ℕ) (d e : Device) → Alike d e → pieces l n d ≡ pieces l n e
-unfolding pieces
-alike-pieces l n d e a = ap₂ (λ (k : ℕ) (ps : List ℕ). runs k l ps) (a .pages) (alike-places l n d e a)
-
--- ---- a write over a range that is trimmed first
-
-set-sets : (t us : List ℕ) (i j v : ℕ) → i < j → set (sets t j us) i v ≡ sets (set t i v) j us
-set-sets t [] i j v h = refl
-set-sets t (u ∷ us) i j v h =
-    set-sets (set t j u) us i (suc j) v (omega arith) ∙ ap (λ (x : List ℕ). sets x (suc j) us) (set-comm t j i u v (omega arith))
-
-pub sets-sets : (t us vs : List ℕ) (i : ℕ) → length us ≡ length vs → sets (sets t i us) i vs ≡ sets t i vs
-sets-sets t [] [] i e = refl
-sets-sets t [] (v ∷ vs) i e = absurd (omega arith)
-sets-sets t (u ∷ us) [] i e = absurd (omega arith)
-sets-sets t (u ∷ us) (v ∷ vs) i e =
-    ap (λ (x : List ℕ). sets x (suc i) vs) (set-sets (set t i u) us i (suc i) v (omega arith) ∙ ap (λ (x : List ℕ). sets x (suc i) us) (set-set t i u v))
-    ∙ sets-sets (set t i v) us vs (suc i) (omega arith)
-
-module _ (k l n : ℕ) (d : Device) where
-  pub trimmed-alike : Alike (trimmed k l n d) d
-  unfolding trimmed withTable
-  trimmed-alike = record { pages = refl; fills = refl; spare = refl; reserve = refl }
-
-  pub over-table : puts l n (trimmed k l n d) .table ≡ puts l n d .table
-  unfolding puts trimmed withTable places
-  over-table =
-      let t = trimmed k l n d in
-      puts-table l (targets l n t) t
-      ∙ ap (sets (t .table) l) (alike-places l n t d trimmed-alike)
-      ∙ sets-sets (d .table) (replicate n none) (places l n d) l (length-replicate n none ∙ sym (length-placed l n d))
-      ∙ sym (puts-table l (targets l n d) d)
-
-  pub over-valid : (c : ℕ) → valid (puts l n (trimmed k l n d)) c ≡ valid (puts l n d) c
-  unfolding valid mapped
-  over-valid c = rw (over-table, alike-puts l n (trimmed k l n d) d trimmed-alike .pages)
-
-  -- the trim has taken the range out of every block's count, and the write adds what each block takes
-  pub over-rise : Sound d → n ≤ free d → l + n ≤ lines d → (c : ℕ) → c < blocks d
-      → valid (puts l n d) c ≡ valid (trimmed k l n d) c + count n (λ i. eqb (getD (targets l n d) i 0) c)
-  unfolding puts trimmed withTable
-  over-rise s f h c z =
-      let t = trimmed k l n d in
-      let bs = targets l n t in
-      let ts = trimmed-sound k l n d s h in
-      let m = length-targets l n t in
-      let size : lines t ≡ lines d = length-sets (d .table) l (replicate n none) in
-      let f′ : n ≤ free t = omega (arith, alike-free t d trimmed-alike) in
-      omega (
-        arith,
-        over-valid c,
-        puts-valid l bs t ts (targets-open l n t ts f′ (omega arith)) (omega arith) c z,
-        count-none (length bs) (λ i. eqb (at t (l + i) / d .pages) c) (λ i a.
-            ne-eqb (at t (l + i) / d .pages) c (λ e. none-block d s c z
-            (sym (ap (λ (x : ℕ). x / d .pages) (trimmed-in k l n d h (l + i) (omega arith) (omega arith))) ∙ e))),
-        ap (λ (x : ℕ). count x (λ i. eqb (getD bs i 0) c)) m,
-        ap (λ (x : List ℕ). count n (λ i. eqb (getD x i 0) c)) (alike-targets l n t d trimmed-alike),
-      )

@@ -6,3 +6,4 @@ pub mod Trims
 pub mod Puts
 pub mod Writes
 pub mod Reclaims
+pub mod One

@@ -29,7 +29,7 @@ use Rattle.laws.specs.Lines.{trimmed-sound}
 use Rattle.laws.specs.Balance.{valid-stale}
 use Rattle.laws.specs.Placed.{Puts, puts-all, puts-slots, puts-pages, puts-reserve}
 use Rattle.laws.specs.Records.{records-length, records-fill, records-valid, words-records}
-use Rattle.laws.specs.Spread.{Alike, alike-free, alike-pieces, over-rise}
+use Rattle.laws.specs.Alike.{Alike, alike-free, alike-pieces, over-rise}
 use Rattle.laws.specs.States.{device-lines, device-blocks, device-fill, extents-in-use, sane-good}
 use Rattle.map.specs.Padded.{padded, Holds, Becomes, became-length, became-slots, became-holds}
 use Rattle.map.specs.Pieces.{putIn, Puttable}

@@ -10,7 +10,8 @@ use Rattle.rules.specs.Lent.{Lent}
 use Rattle.rules.specs.Extents.{none}
 use Rattle.rules.specs.Device.{Device, free, deviceOf}
 use Rattle.rules.specs.Placement.{places, pieces}
-use Rattle.laws.specs.Spread.{spread, firstPage, spread-pieces, first-page, Alike, alike-free, alike-pieces}
+use Rattle.laws.specs.Spread.{spread, firstPage, spread-pieces, first-page}
+use Rattle.laws.specs.Alike.{Alike, alike-free, alike-pieces}
 
 -- the fills of B blocks
 abbrev pub fillsOf : ℕ → List ℕ → List ℕ

@@ -15,7 +15,8 @@ use Rattle.rules.specs.Placement.{targets, puts, pieces}
 use Rattle.rules.specs.Calls.{over}
 use Rattle.rules.specs.declared.Extent.{Extent}
 use Rattle.laws.specs.Cells.{length-tabulate}
-use Rattle.laws.specs.Spread.{listed, listed-none, listed-some, Alike, alike-targets, alike-puts, alike-pieces}
+use Rattle.laws.specs.Spread.{listed, listed-none, listed-some}
+use Rattle.laws.specs.Alike.{Alike, alike-targets, alike-puts, alike-pieces}
 use Rattle.placing.specs.Bare.{fillsOf, bare}
 use Rattle.placing.specs.Blocks.{raised, raised-none}
 
