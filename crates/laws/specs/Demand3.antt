@@ -26,7 +26,8 @@ use Rattle.laws.specs.Flash.{Cell, Seen, hole}
 use Rattle.laws.specs.Sane.{Good}
 use Rattle.laws.specs.States.{good-shaped, good-sound}
 use Rattle.laws.specs.Calls.{encoded}
-use Rattle.laws.specs.Encoded.{runs-length, reclaim-shrinks}
+use Rattle.laws.specs.Runs.{runs-length}
+use Rattle.laws.specs.Encoded.{reclaim-shrinks}
 use Rattle.laws.specs.Kept.{WriteTaken, passes, keeps, reclaim-passes, device-good, device-is}
 use Rattle.laws.specs.Growth.{write-bound, write-lines}
 use Rattle.laws.specs.Host.{shown, World, step, ErasedFromFill, begin}

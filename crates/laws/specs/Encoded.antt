@@ -14,7 +14,7 @@ use Rattle.rules.specs.Placement.{putsAt, placesAt}
 use Rattle.rules.specs.Number.{withTable, trimmed}
 use Rattle.rules.specs.Reclaim.{victim, goes, reclaimedAt, reclaimed}
 use Rattle.laws.specs.Cells.{block-le}
-use Rattle.laws.specs.Runs.{join-length, runs-hole, runs-page, runs-rows, runs-lookup}
+use Rattle.laws.specs.Runs.{join-length, runs-hole, runs-page, runs-rows, runs-lookup, runs-length}
 use Rattle.laws.specs.Cut.{cut}
 use Rattle.laws.specs.Trim.{trim-cut}
 use Rattle.laws.specs.Write.{place, write-place}
@@ -51,14 +51,6 @@ reclaim-extents d s v a e =
     ap (named d v) (ap (λ (x : ℕ). x % d .pages) (g ∙ w .is) ∙ digits-mod v (omega (arith, w .below, s .full v a))) ∙ w .live))
 
 -- ---- how many
-
-pub runs-length : (n l : ℕ) (t : List ℕ) → length (runs n l t) ≤ length t
-unfolding runs
-runs-length n l [] = omega arith
-runs-length n l (p ∷ ps) =
-    by-cases (ℕ-discrete p none)
-    (λ e. rw (runs-hole n l p ps e) (omega (arith, runs-length n (suc l) ps)))
-    (λ e. rw (runs-page n l p ps e) (omega (arith, join-length n (extent l p 1) (runs n (suc l) ps), runs-length n (suc l) ps)))
 
 -- at most one a line
 pub extents-lines : (d : Device) → length (extents d) ≤ lines d

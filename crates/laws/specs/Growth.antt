@@ -17,7 +17,8 @@ use Rattle.laws.specs.Device.{Sound, same-block, same-offset, page-lt, o
 use Rattle.laws.specs.Placed.{Open, Opens, put-pages, put-fill, put-fill-other, put-one, puts-table, puts-pages, length-places, places-lt, places-small, length-targets, targets-open, puts-all}
 use Rattle.laws.specs.Lines.{trimmed-lines}
 use Rattle.laws.specs.States.{table-lines}
-use Rattle.laws.specs.Encoded.{write-extents, trim-extents, runs-length, extents-lines}
+use Rattle.laws.specs.Runs.{runs-length}
+use Rattle.laws.specs.Encoded.{write-extents, trim-extents, extents-lines}
 
 -- ---- new pages lie from their block's fill on
 
