@@ -15,7 +15,7 @@ add-total-2 : tie.Need-add-total-2
 add-total-2 c = omega (arith, few-meet (c .before .before .before .before .before .args .l) (c .before .before .before .before .before .args .n) (lent (c .before .before .before .before .before .args .h) (c .before .before .before .before .before .args .ext .now) (c .before .before .before .before .before .args .blk .now) (c .before .before .before .before .before .args .spare .now)) (c .before .before .before .before .before .pre .0) _ (c .before .meeting-of .ensures))
 
 sub-result : tie.Need-sub-result
-sub-result c = nodes-joined (c .before .before .before .before .before .before .args .l) (c .before .before .before .before .before .before .args .n) (lent (c .before .before .before .before .before .before .args .h) (c .before .before .before .before .before .before .args .ext .now) (c .before .before .before .before .before .before .args .blk .now) (c .before .before .before .before .before .before .args .spare .now)) (c .before .before .before .before .before .before .pre .0) _ _ (c .before .before .meeting-of .ensures) (c .before .before .before .before .before .before .pre .1) (c .if1 .taken) .0
+sub-result c = omega (arith, nodes-joined (c .before .before .before .before .before .before .args .l) (c .before .before .before .before .before .before .args .n) (lent (c .before .before .before .before .before .before .args .h) (c .before .before .before .before .before .before .args .ext .now) (c .before .before .before .before .before .before .args .blk .now) (c .before .before .before .before .before .before .args .spare .now)) (c .before .before .before .before .before .before .pre .0) _ _ (c .before .before .meeting-of .ensures) (c .before .before .before .before .before .before .pre .1) (c .if1 .taken) .0)
 
 returns : tie.Need-returns
 returns c = nodes-joined (c .before .before .before .before .before .before .args .l) (c .before .before .before .before .before .before .args .n) (lent (c .before .before .before .before .before .before .args .h) (c .before .before .before .before .before .before .args .ext .now) (c .before .before .before .before .before .before .args .blk .now) (c .before .before .before .before .before .before .args .spare .now)) (c .before .before .before .before .before .before .pre .0) _ _ (c .before .before .meeting-of .ensures) (c .before .before .before .before .before .before .pre .1) (c .if1 .taken) .1
