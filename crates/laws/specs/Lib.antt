@@ -8,8 +8,6 @@ pub mod Runs
 pub mod Cut
 pub mod Trim
 pub mod Write
-pub mod Insert
-pub mod Put
 pub mod Norm
 pub mod Read
 pub mod Slots
@@ -21,11 +19,8 @@ pub mod Placed
 pub mod Lines
 pub mod Reclaimed
 pub mod Valid
-pub mod Settle
 pub mod Fresh
-pub mod Flash
 pub mod Sane
-pub mod Host
 pub mod Shapes
 pub mod Ranked
 pub mod Sanes
@@ -33,16 +28,8 @@ pub mod Tallies
 pub mod Records
 pub mod States
 pub mod Calls
-pub mod Until
 pub mod Encoded
 pub mod Kept
 pub mod Growth
-pub mod Listed
-pub mod Agrees
-pub mod Reads
-pub mod Worlds
-pub mod Starts
-pub mod Demand2
-pub mod Demand3
 pub mod Spread
 pub mod Alike

@@ -17,8 +17,8 @@ use Rattle.rules.specs.declared.Extent.{Extent}
 use Rattle.laws.specs.Cells.{length-tabulate}
 use Rattle.laws.specs.Spread.{listed, listed-none, listed-some}
 use Rattle.laws.specs.Alike.{Alike, alike-targets, alike-puts, alike-pieces}
-use Rattle.placing.specs.Bare.{fillsOf, bare}
-use Rattle.placing.specs.Blocks.{raised, raised-none}
+use Rattle.targets.specs.Bare.{fillsOf, bare}
+use Rattle.targets.specs.Blocks.{raised, raised-none}
 
 -- ---- one block
 

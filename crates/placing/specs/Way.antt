@@ -19,9 +19,9 @@ use Rattle.rules.specs.declared.Extent.{Extent}
 use Rattle.laws.specs.Slots.{flat-length}
 use Rattle.laws.specs.Cells.{block-le, length-tabulate, getD-tabulate}
 use Rattle.laws.specs.Spread.{listed, spread, filled, labelled, listed-none, listed-some, taken-le, taken-room, spread-pieces, puts-filled, puts-labelled, puts-rise}
-use Rattle.placing.specs.Bare.{fillsOf, bare}
-use Rattle.placing.specs.Blocks.{raised, raises, raised-length, raised-rise, raised-after, raises-fills, raises-rise}
-use Rattle.placing.specs.Rest.{rest, takes, page-small, fills-all, rest-start, rest-next, rest-end}
+use Rattle.targets.specs.Bare.{fillsOf, bare}
+use Rattle.targets.specs.Blocks.{raised, raises, raised-length, raised-rise, raised-after, raises-fills, raises-rise}
+use Rattle.targets.specs.Rest.{rest, takes, page-small, fills-all, rest-start, rest-next, rest-end}
 use Rattle.placing.specs.Place.{pieceIn, Fits, PlacedIn, Ready, Placed}
 
 -- ---- a piece in front of others

@@ -1,20 +1,15 @@
-// What a read finds: a walk over the slots in use, once to count the pieces and once to lay them into the answer buffer.
+// What a read finds: a walk over the slots in use that counts the pieces. `listing` walks the same way and lays them into the answer buffer.
 ghost use mathlib.Core.Path.{_≡_};
 ghost use Prim.Native.Nat.{_+_, _*_, _<_, _≤_};
-ghost use mathlib.Core.List.{[], _∷_};
+ghost use mathlib.Core.List.{[]};
 ghost use lib.ListN.{length};
-ghost use Rattle.rules.specs.Extents.{extent, end, flat, slot, slots};
+ghost use Rattle.rules.specs.Extents.{slot, slots};
 ghost use Rattle.rules.specs.Read.{hole};
-ghost use Rattle.rules.specs.Calls.{over};
-ghost use Rattle.map.specs.Sound.{Sound, Piece};
+ghost use Rattle.map.specs.Sound.{Sound};
 ghost use Rattle.reading.specs.Walk.{between, starts, reaches, tells};
-ghost use Rattle.reading.specs.Told.{laid, Lays};
-
-// 01, Numbers: the physical start of a hole in a read.
-const NONE: u32 = 4294967295;
 
 // Where the piece of slot i starts.
-fn start_of(ext: &[u32], i: usize, pos: u32) -> u32
+pub fn start_of(ext: &[u32], i: usize, pos: u32) -> u32
     requires { ⌜ 3 * i + 2 < length (now ext) ⌝ }
     ensures { λ r. ⌜ r ≡ starts pos (slot (now (ext .entry)) i) ⌝ }
 {
@@ -26,7 +21,7 @@ fn start_of(ext: &[u32], i: usize, pos: u32) -> u32
 }
 
 // How far the answer reaches with slot i.
-fn reach_of(ext: &[u32], i: usize, pos: u32, e: u32) -> u32
+pub fn reach_of(ext: &[u32], i: usize, pos: u32, e: u32) -> u32
     requires { ⌜ (3 * i + 2 < length (now ext)) × (pos ≤ e) ⌝ }
     ensures { λ r. ⌜ r ≡ reaches pos e (slot (now (ext .entry)) i) ⌝ }
 {
@@ -82,73 +77,4 @@ pub fn count_found(ext: &[u32], used: usize, l: u32, e: u32) -> usize
         i += 1;
     }
     count + last_hole(pos, e)
-}
-
-// ---- the answer
-
-// A piece into slot k of the answer buffer.
-fn put_piece(out: &mut [u32], k: usize, l: u32, p: u32, c: u32)
-    requires { ⌜ 3 * (k + 1) ≤ length (now out) ⌝ }
-    ensures { λ _. ⌜ now (out .exit) ≡ laid k (extent l p c ∷ []) (now (out .entry)) ⌝ }
-{
-    let at = 3 * k;
-    out[at] = l;
-    out[at + 1] = p;
-    out[at + 2] = c;
-}
-
-// The hole from a up to b, where there is one. The slot after it is returned.
-fn put_hole(out: &mut [u32], k: usize, a: u32, b: u32) -> usize
-    requires { ⌜ 3 * (k + length (hole a b [])) ≤ length (now out) ⌝ }
-    ensures { λ r. ⌜ Lays k (hole a b []) (now (out .entry)) r (now (out .exit)) ⌝ }
-{
-    if b <= a {
-        return k;
-    }
-    put_piece(out, k, a, NONE, b - a);
-    k + 1
-}
-
-// The pieces of slot i, the first in slot k of the answer buffer. The slot after them is returned.
-fn put_slot(ext: &[u32], i: usize, pos: u32, e: u32, out: &mut [u32], k: usize) -> usize
-    requires { ⌜ (3 * i + 2 < length (now ext)) × (pos ≤ e) × (starts pos (slot (now ext) i) < e) × Piece (slot (now ext) i) ⌝ }
-    requires { ⌜ 3 * (k + length (tells pos e (slot (now ext) i))) ≤ length (now out) ⌝ }
-    ensures { λ r. ⌜ Lays k (tells pos e (slot (now (ext .entry)) i)) (now (out .entry)) r (now (out .exit)) ⌝ }
-{
-    if map::end_of(ext, i) <= (pos as u64) {
-        return k;
-    }
-    let at = 3 * i;
-    let start = start_of(ext, i, pos);
-    let reach = reach_of(ext, i, pos, e);
-    let j = put_hole(out, k, pos, start);
-    put_piece(
-        out,
-        j,
-        start,
-        ext[at + 1] + (start - ext[at]),
-        reach - start,
-    );
-    j + 1
-}
-
-// What a read of the logical pages from l up to e finds, in the first words of the answer buffer.
-pub fn list_found(ext: &[u32], used: usize, l: u32, e: u32, out: &mut [u32])
-    requires { ⌜ (3 * used ≤ length (now ext)) × (l ≤ e) × Sound (slots (now ext) 0 used) ⌝ }
-    requires { ⌜ 3 * length (between l e (slots (now ext) 0 used)) ≤ length (now out) ⌝ }
-    ensures { λ _. ⌜ now (out .exit) ≡ over (flat (between l e (slots (now (ext .entry)) 0 used))) (now (out .entry)) ⌝ }
-{
-    let mut k: usize = 0;
-    let mut pos = l;
-    let mut i: usize = 0;
-    while i < used {
-        if e <= start_of(ext, i, pos) {
-            put_hole(out, k, pos, e);
-            return;
-        }
-        k = put_slot(ext, i, pos, e, out, k);
-        pos = reach_of(ext, i, pos, e);
-        i += 1;
-    }
-    put_hole(out, k, pos, e);
 }

@@ -12,7 +12,7 @@ use lib.Seq.{sets, take-suc, getD-take, length-take-le}
 use Rattle.rules.specs.Extents.{none}
 use Rattle.rules.specs.Reclaim.{copied, moved}
 use Rattle.laws.specs.Cells.{block-le, copies, copies-copied, length-copied}
-use Rattle.reclaiming.specs.Part.{part-filled}
+use Rattle.choosing.specs.Part.{part-filled}
 
 -- the first k words of ps are pages of block v, and all their labels have room in block r
 pub record Copied (n r v : ℕ) (ps : List ℕ) (k size : ℕ) : Type 0 where

@@ -1,10 +1,5 @@
-pub mod Stale
-pub mod Part
-pub mod Covered
-pub mod Ranks
 pub mod Remapped
 pub mod Slot
-pub mod Sources
 pub mod Labels
 pub mod Emptied
 pub mod Reclaims

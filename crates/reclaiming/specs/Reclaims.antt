@@ -34,11 +34,11 @@ use Rattle.laws.specs.Ranked.{rows-ranked}
 use Rattle.laws.specs.Records.{records-length, records-fill, records-valid, words-records}
 use Rattle.laws.specs.States.{table-lines}
 use Rattle.laws.specs.Encoded.{reclaim-extents}
-use Rattle.reclaiming.specs.Stale.{staleWord}
-use Rattle.reclaiming.specs.Covered.{holds, covered, holds-true, true-holds}
-use Rattle.reclaiming.specs.Ranks.{Ranks, rises, rises-live}
+use Rattle.choosing.specs.Stale.{staleWord}
+use Rattle.choosing.specs.Covered.{holds, covered, holds-true, true-holds}
+use Rattle.choosing.specs.Ranks.{Ranks, rises, rises-live}
 use Rattle.reclaiming.specs.Remapped.{remapped, laid}
-use Rattle.reclaiming.specs.Sources.{livePages, pages-same, length-below, length-over}
+use Rattle.choosing.specs.Sources.{livePages, pages-same, length-below, length-over}
 use Rattle.reclaiming.specs.Slot.{Ends}
 use Rattle.reclaiming.specs.Labels.{Copied}
 use Rattle.reclaiming.specs.Emptied.{emptied, emptied-length, victim-fill, victim-valid, reserve-fill, reserve-valid, rest-fill, rest-valid}

@@ -19,8 +19,8 @@ use Rattle.laws.specs.Cells.{map-same}
 use Rattle.laws.specs.Unique.{extent-path}
 use Rattle.laws.specs.Runs.{joinable-true, joined-true, join-joined, join-apart}
 use Rattle.laws.specs.Norm.{norm, move, movesTo, movesTo-here, movesTo-else}
-use Rattle.reclaiming.specs.Covered.{covered}
-use Rattle.reclaiming.specs.Ranks.{Ranks}
+use Rattle.choosing.specs.Covered.{covered}
+use Rattle.choosing.specs.Ranks.{Ranks}
 
 -- the extents of a map after block v is emptied into block r
 unfoldable pub remapped : ℕ → ℕ → ℕ → List Extent → List Extent

@@ -1,4 +1,4 @@
--- Slots stored one by one: each renamed in its place, or pushed behind the slots that stand already and joined with the last of them.
+-- Slots moved one by one: each pushed behind the slots that stand already, and joined with the last of them where it can be.
 use Prim.Native.Nat.{ℕ, zero, suc, _+_, _*_, _-_, _<_, _≤_}
 use mathlib.Core.Bool.{Bool, true, false, _&&_}
 use mathlib.Core.Path.{_≡_, refl, sym, ap, ap₂, _∙_, subst}
@@ -21,8 +21,8 @@ use Rattle.laws.specs.Unique.{extent-path}
 use Rattle.laws.specs.Runs.{joinable-true, join-joined, join-apart}
 use Rattle.laws.specs.Norm.{norm, move}
 use Rattle.words.specs.Parts.{mid-tail, put-tail}
-use Rattle.reclaiming.specs.Covered.{covered}
-use Rattle.reclaiming.specs.Ranks.{Ranks}
+use Rattle.choosing.specs.Covered.{covered}
+use Rattle.choosing.specs.Ranks.{Ranks}
 use Rattle.reclaiming.specs.Remapped.{remapped, laid, place, places-moved, norm-count, push, norm-push, push-last}
 
 -- each of u slots ends at or below the greatest word
@@ -86,48 +86,13 @@ remapped-count ws u n ranks v r k i z h e c =
     joined-count ws u n (place n ranks v r) k i e c
     ∙ ap (λ (es : List Extent). length (norm n es)) (places-moved n ranks v r (covered (slots ws 0 u) n v) (slots ws 0 u) z h)
 
--- ---- each slot's page moved, in its place
-
-pub record Renamed (g : ℕ → ℕ) (ws : List ℕ) (i : ℕ) (ws′ : List ℕ) : Type 0 where
-  pub done : slots ws′ 0 i ≡ map (move g) (slots ws 0 i)
-  pub rest : (k : ℕ) → 3 * i ≤ k → getD ws′ k 0 ≡ getD ws k 0
-
-pub renamed-start : (g : ℕ → ℕ) (ws : List ℕ) → Renamed g ws 0 ws
-unfolding slots
-renamed-start g ws = record { done = refl; rest = λ k h. refl }
-
-pub renamed-step : (g : ℕ → ℕ) (ws ws′ : List ℕ) (i x : ℕ) → 3 * i + 2 < length ws′ → Renamed g ws i ws′ → x ≡ g (getD ws′ (3 * i + 1) 0)
-    → Renamed g ws (i + 1) (set ws′ (3 * i + 1) x)
-renamed-step g ws ws′ i x l h e =
-    let ws″ = set ws′ (3 * i + 1) x in
-    let other : (k : ℕ) → (k ≡ 3 * i + 1 → ⊥) → getD ws″ k 0 ≡ getD ws′ k 0 = λ k f. getD-set-other ws′ (3 * i + 1) k x 0 f in
-    record {
-      done = slots-more ws″ 0 i i (omega arith)
-          ∙ ap₂ (λ (es : List Extent) (y : Extent). es ++ y ∷ [])
-          (slots-same ws″ ws′ 0 i (λ k a b. other k (omega arith)) ∙ h .done)
-          (extent-path (slot ws″ i) (move g (slot ws i))
-          (other (3 * i) (omega arith) ∙ h .rest (3 * i) (omega arith))
-          (getD-set-same ws′ (3 * i + 1) x 0 (omega arith) ∙ e ∙ ap g (h .rest (3 * i + 1) (omega arith)))
-          (other (3 * i + 2) (omega arith) ∙ h .rest (3 * i + 2) (omega arith)))
-          ∙ sym (ap (map (move g)) (slots-more ws 0 i i (omega arith)) ∙ map-append (move g) (slots ws 0 i) (slot ws i ∷ []));
-      rest = λ k a. other k (omega arith) ∙ h .rest k (omega arith);
-    }
-
--- the ends stay
-pub renamed-ends : (g : ℕ → ℕ) (ws ws′ : List ℕ) (u : ℕ) → slots ws′ 0 u ≡ map (move g) (slots ws 0 u) → Ends ws u → Ends ws′ u
-renamed-ends g ws ws′ u h e i s =
-    let z = extent 0 0 0 in
-    let at : slot ws′ i ≡ move g (slot ws i) =
-    sym (slots-at ws′ 0 u i i z s (omega arith)) ∙ ap (λ (es : List Extent). getD es i z) h ∙ slots-move ws u g i z s in
-    omega (arith, ap end at, e i s)
-
 -- ---- slots pushed from the left
 
--- slot i pushed behind the first w slots: k slots stand then
-pub record Pushed (n : ℕ) (ws : List ℕ) (w i : ℕ) (ws′ : List ℕ) (k : ℕ) : Type 0 where
-  pub done : slots ws′ 0 k ≡ push n (slots ws 0 w) (slot ws i)
-  pub rest : (j : ℕ) → 3 * (i + 1) ≤ j → getD ws′ j 0 ≡ getD ws j 0
-  pub few : k ≤ i + 1
+-- extent x pushed behind the first w slots: k slots stand then
+pub record Pushed (n : ℕ) (ws : List ℕ) (w : ℕ) (x : Extent) (ws′ : List ℕ) (k : ℕ) : Type 0 where
+  pub done : slots ws′ 0 k ≡ push n (slots ws 0 w) x
+  pub rest : (j : ℕ) → 3 * (w + 1) ≤ j → getD ws′ j 0 ≡ getD ws j 0
+  pub few : k ≤ w + 1
 
 -- slot x is joinable with the last of the first w slots
 unfoldable pub joinsLast : ℕ → List ℕ → ℕ → Extent → Bool
@@ -153,13 +118,12 @@ joins-last n ws w x e =
     let s = and-split (ltb 0 w) (joinable n (slot ws (w - 1)) x) e in
     record { some = ltb-true 0 w (s .0); meets = s .1; logical = sym (joinable-true n (slot ws (w - 1)) x (s .1) .logical) }
 
-joined : (n : ℕ) (ws : List ℕ) (w i : ℕ) → w ≤ i → 3 * i + 2 < length ws → joinsLast n ws w (slot ws i) ≡ true
-    → Pushed n ws w i (set ws (3 * (w - 1) + 2) (getD ws (3 * (w - 1) + 2) 0 + slot ws i .count)) w
-joined n ws w i h l t =
-    let last = joins-last n ws w (slot ws i) t in
+pub pushed-joined : (n : ℕ) (ws : List ℕ) (w : ℕ) (x : Extent) → 3 * w + 2 < length ws → joinsLast n ws w x ≡ true
+    → Pushed n ws w x (set ws (3 * (w - 1) + 2) (getD ws (3 * (w - 1) + 2) 0 + x .count)) w
+pushed-joined n ws w x l t =
+    let last = joins-last n ws w x t in
     let j = w - 1 in
     let a = slot ws j in
-    let x = slot ws i in
     let ws′ = set ws (3 * j + 2) (a .count + x .count) in
     let back : w ≡ j + 1 = omega (arith, last .some) in
     let other : (k : ℕ) → (k ≡ 3 * j + 2 → ⊥) → getD ws′ k 0 ≡ getD ws k 0 = λ k f. getD-set-other ws (3 * j + 2) k (a .count + x .count) 0 f in
@@ -174,11 +138,6 @@ joined n ws w i h l t =
       rest = λ k p. other k (omega (arith, last .some));
       few = omega arith;
     }
-
-pub pushed-joined : (n : ℕ) (ws : List ℕ) (w i : ℕ) (x : Extent) → w ≤ i → 3 * i + 2 < length ws → x ≡ slot ws i → joinsLast n ws w (slot ws i) ≡ true
-    → Pushed n ws w i (set ws (3 * (w - 1) + 2) (getD ws (3 * (w - 1) + 2) 0 + x .count)) w
-pushed-joined n ws w i x h l e t =
-    subst (λ (y : Extent). Pushed n ws w i (set ws (3 * (w - 1) + 2) (getD ws (3 * (w - 1) + 2) 0 + y .count)) w) (sym e) (joined n ws w i h l t)
 
 put-other : (ws : List ℕ) (i : ℕ) (e : Extent) (k : ℕ) → (3 * i ≤ k → k < 3 * i + 3 → ⊥) → getD (put ws i e) k 0 ≡ getD ws k 0
 put-other ws i e k f =
@@ -212,65 +171,59 @@ push-apart n ws (suc j) x t =
     ∙ ap (λ (es : List Extent). slots ws 0 j ++ es) (join-apart n (slot ws j) x [] e′)
     ∙ sym (ap (λ (es : List Extent). es ++ x ∷ []) more ∙ append-assoc (slots ws 0 j) (slot ws j ∷ []) (x ∷ []))
 
-apart : (n : ℕ) (ws : List ℕ) (w i : ℕ) → w ≤ i → 3 * i + 2 < length ws → joinsLast n ws w (slot ws i) ≡ false
-    → Pushed n ws w i (put ws w (slot ws i)) (w + 1)
-apart n ws w i h l t =
-    let x = slot ws i in
-    let ws′ = put ws w x in
-    record {
-      done = slots-more ws′ 0 w w (omega arith)
-          ∙ ap₂ (λ (es : List Extent) (y : Extent). es ++ y ∷ []) (slots-same ws′ ws 0 w (λ k p q. put-other ws w x k (λ a b. omega arith))) (put-slot ws w x (omega arith))
-          ∙ sym (push-apart n ws w x t);
-      rest = λ k p. put-other ws w x k (λ a b. omega arith);
-      few = omega arith;
-    }
+pub pushed-apart : (n : ℕ) (ws ws′ : List ℕ) (w : ℕ) (x : Extent) → 3 * w + 2 < length ws → joinsLast n ws w x ≡ false → ws′ ≡ put ws w x
+    → Pushed n ws w x ws′ (w + 1)
+pushed-apart n ws ws′ w x l t e = subst (λ (zs : List ℕ). Pushed n ws w x zs (w + 1)) (sym e) record {
+  done = slots-more (put ws w x) 0 w w (omega arith)
+      ∙ ap₂ (λ (es : List Extent) (y : Extent). es ++ y ∷ []) (slots-same (put ws w x) ws 0 w (λ k p q. put-other ws w x k (λ a b. omega arith))) (put-slot ws w x l)
+      ∙ sym (push-apart n ws w x t);
+  rest = λ k p. put-other ws w x k (λ a b. omega arith);
+  few = omega arith;
+}
 
-pub pushed-apart : (n : ℕ) (ws ws′ : List ℕ) (w i : ℕ) (x : Extent) → w ≤ i → 3 * i + 2 < length ws → x ≡ slot ws i → joinsLast n ws w (slot ws i) ≡ false
-    → ws′ ≡ put ws w x → Pushed n ws w i ws′ (w + 1)
-pushed-apart n ws ws′ w i x h l e t p =
-    subst (λ (zs : List ℕ). Pushed n ws w i zs (w + 1)) (sym (p ∙ ap (put ws w) e)) (apart n ws w i h l t)
-
--- after i slots: w stand, joined, and the others are as they were
-pub record Packed (n : ℕ) (ws : List ℕ) (i : ℕ) (ws′ : List ℕ) (w : ℕ) : Type 0 where
-  pub done : slots ws′ 0 w ≡ norm n (slots ws 0 i)
+-- after i slots, each moved by g: w stand, joined, and the others are as they were
+pub record Packed (g : ℕ → ℕ) (n : ℕ) (ws : List ℕ) (i : ℕ) (ws′ : List ℕ) (w : ℕ) : Type 0 where
+  pub done : slots ws′ 0 w ≡ norm n (map (move g) (slots ws 0 i))
   pub rest : (k : ℕ) → 3 * i ≤ k → getD ws′ k 0 ≡ getD ws k 0
   pub few : w ≤ i
 
-pub packed-start : (n : ℕ) (ws : List ℕ) → Packed n ws 0 ws 0
+pub packed-start : (g : ℕ → ℕ) (n : ℕ) (ws : List ℕ) → Packed g n ws 0 ws 0
 unfolding slots norm
-packed-start n ws = record { done = refl; rest = λ k h. refl; few = omega arith }
+packed-start g n ws = record { done = refl; rest = λ k h. refl; few = omega arith }
 
-pub packed-slot : (n : ℕ) (ws ws′ : List ℕ) (i w : ℕ) → Packed n ws i ws′ w → slot ws′ i ≡ slot ws i
-packed-slot n ws ws′ i w h = slot-same ws′ ws i (λ k a b. h .rest k a)
+pub packed-slot : (g : ℕ → ℕ) (n : ℕ) (ws ws′ : List ℕ) (i w : ℕ) → Packed g n ws i ws′ w → slot ws′ i ≡ slot ws i
+packed-slot g n ws ws′ i w h = slot-same ws′ ws i (λ k a b. h .rest k a)
 
-pub packed-step : (n : ℕ) (ws ws′ ws″ : List ℕ) (i w k : ℕ) → Packed n ws i ws′ w → Pushed n ws′ w i ws″ k → Packed n ws (i + 1) ws″ k
-packed-step n ws ws′ ws″ i w k h p = record {
-  done = p .done ∙ ap₂ (push n) (h .done) (packed-slot n ws ws′ i w h)
-      ∙ sym (ap (norm n) (slots-more ws 0 i i (omega arith)) ∙ norm-push n (slots ws 0 i) (slot ws i));
-  rest = λ j a. p .rest j a ∙ h .rest j (omega arith);
-  few = p .few;
+pub packed-step : (g : ℕ → ℕ) (n : ℕ) (ws ws′ ws″ : List ℕ) (i w k : ℕ) (x : Extent) → Packed g n ws i ws′ w → x ≡ move g (slot ws′ i)
+    → Pushed n ws′ w x ws″ k → Packed g n ws (i + 1) ws″ k
+packed-step g n ws ws′ ws″ i w k x h e p = record {
+  done = p .done ∙ ap₂ (push n) (h .done) (e ∙ ap (move g) (packed-slot g n ws ws′ i w h))
+      ∙ sym (ap (λ (es : List Extent). norm n (map (move g) es)) (slots-more ws 0 i i (omega arith))
+      ∙ ap (norm n) (map-append (move g) (slots ws 0 i) (slot ws i ∷ []))
+      ∙ norm-push n (map (move g) (slots ws 0 i)) (move g (slot ws i)));
+  rest = λ j a. p .rest j (omega (arith, h .few)) ∙ h .rest j (omega arith);
+  few = omega (arith, p .few, h .few);
 }
 
-pub packed-length : (n : ℕ) (ws ws′ : List ℕ) (i w : ℕ) → Packed n ws i ws′ w → w ≡ length (norm n (slots ws 0 i))
-packed-length n ws ws′ i w h = sym (slots-length ws′ 0 w) ∙ ap length (h .done)
+pub packed-length : (g : ℕ → ℕ) (n : ℕ) (ws ws′ : List ℕ) (i w : ℕ) → Packed g n ws i ws′ w → w ≡ length (norm n (map (move g) (slots ws 0 i)))
+packed-length g n ws ws′ i w h = sym (slots-length ws′ 0 w) ∙ ap length (h .done)
 
 -- and zeros behind them
-pub packed-end : (n : ℕ) (ws ws′ ys : List ℕ) (i w : ℕ) → 3 * i ≤ length ws → length ws′ ≡ length ws → Packed n ws i ws′ w
+pub packed-end : (g : ℕ → ℕ) (n : ℕ) (ws ws′ ys : List ℕ) (i w : ℕ) → 3 * i ≤ length ws → length ws′ ≡ length ws → Packed g n ws i ws′ w
     → ys ≡ replicate (length (midOf (3 * w) (length ws′ - 3 * w) ws′)) 0
-    → putMid (3 * w) (length ws′ - 3 * w) ws′ ys ≡ laid (norm n (slots ws 0 i)) (length ws)
+    → putMid (3 * w) (length ws′ - 3 * w) ws′ ys ≡ laid (norm n (map (move g) (slots ws 0 i))) (length ws)
 unfolding laid
-packed-end n ws ws′ ys i w l m h e =
+packed-end g n ws ws′ ys i w l m h e =
     let few = h .few in
-    let size : length (midOf (3 * w) (length ws′ - 3 * w) ws′) ≡ length ws - 3 * length (norm n (slots ws 0 i)) =
-    ap length (mid-tail (3 * w) ws′) ∙ length-drop (3 * w) ws′ ∙ omega (arith, packed-length n ws ws′ i w h) in
+    let size : length (midOf (3 * w) (length ws′ - 3 * w) ws′) ≡ length ws - 3 * length (norm n (map (move g) (slots ws 0 i))) =
+    ap length (mid-tail (3 * w) ws′) ∙ length-drop (3 * w) ws′ ∙ omega (arith, packed-length g n ws ws′ i w h) in
     put-tail (3 * w) ws′ ys
     ∙ ap₂ (λ (a b : List ℕ). a ++ b)
     (sym (flat-slots ws′ w (omega arith)) ∙ ap flat (h .done))
     (e ∙ ap (λ (k : ℕ). replicate k 0) size)
 
--- ---- both passes
-
-pub moved-map : (ws ws′ : List ℕ) (u n : ℕ) (ranks : List ℕ) (v r : ℕ) → 0 < n → Ranks n (covered (slots ws 0 u) n v) ranks
-    → slots ws′ 0 u ≡ map (move (place n ranks v r)) (slots ws 0 u) → norm n (slots ws′ 0 u) ≡ remapped n v r (slots ws 0 u)
+-- all of it
+pub moved-map : (ws : List ℕ) (u n : ℕ) (ranks : List ℕ) (v r : ℕ) → 0 < n → Ranks n (covered (slots ws 0 u) n v) ranks
+    → norm n (map (move (place n ranks v r)) (slots ws 0 u)) ≡ remapped n v r (slots ws 0 u)
 unfolding remapped
-moved-map ws ws′ u n ranks v r z h e = ap (norm n) (e ∙ places-moved n ranks v r (covered (slots ws 0 u) n v) (slots ws 0 u) z h)
+moved-map ws u n ranks v r z h = ap (norm n) (places-moved n ranks v r (covered (slots ws 0 u) n v) (slots ws 0 u) z h)

@@ -15,10 +15,10 @@ use Rattle.rules.specs.declared.Head.{Head}
 use Rattle.laws.specs.Sane.{Shaped, Sane, pagesIn}
 use Rattle.laws.specs.Shapes.{shaped-true}
 use Rattle.laws.specs.Sanes.{sound-sane, sane-sound}
-use Rattle.state.specs.Says.{Says, says-for, is-no, is-said}
-use Rattle.state.specs.Scans.{part-mid, same-says}
-use Rattle.state.specs.Walk.{Given, Rowed}
-use Rattle.state.specs.Block.{Block}
+use Rattle.words.specs.Says.{Says, says-for, is-no, is-said}
+use Rattle.words.specs.Scans.{part-mid, same-says}
+use Rattle.rows.specs.Walk.{Given, Rowed}
+use Rattle.counts.specs.Block.{Block}
 
 -- what the head says of the words: rule 1 on slots in use and not, and rule 6
 pub record Headed (h : Head) (ext blk : List ℕ) : Type 0 where

@@ -50,15 +50,13 @@ pub fn put_valid(blk: &mut [u32], b: usize, x: u32)
 pub fn all_are(ws: &[u32], x: u32) -> bool
     ensures { λ r. ⌜ r ≡ all (length (now (ws .entry))) (λ k. eqb (getD (now (ws .entry)) k 0) x) ⌝ }
 {
-    let mut ok = true;
+    let mut off: u32 = 0;
     let mut k: usize = 0;
     while k < ws.len() {
-        if ws[k] != x {
-            ok = false;
-        }
+        off = off | (ws[k] ^ x);
         k += 1;
     }
-    ok
+    off == 0
 }
 
 // Every word is below top.
@@ -81,15 +79,13 @@ pub fn all_rise(ws: &[u32], x: u32) -> bool
     requires { ⌜ x + length (now ws) ≤ 2 ^ 32 ⌝ }
     ensures { λ r. ⌜ r ≡ all (length (now (ws .entry))) (λ k. eqb (getD (now (ws .entry)) k 0) (x + k)) ⌝ }
 {
-    let mut ok = true;
+    let mut off: u32 = 0;
     let mut k: usize = 0;
     while k < ws.len() {
-        if ws[k] != x + (k as u32) {
-            ok = false;
-        }
+        off = off | (ws[k] ^ (x + (k as u32)));
         k += 1;
     }
-    ok
+    off == 0
 }
 
 // ---- stores

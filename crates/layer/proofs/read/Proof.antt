@@ -4,8 +4,8 @@ use Rattle.rules.specs.Lent.{lent}
 use Rattle.rules.specs.Device.{deviceOf}
 use Rattle.rules.specs.Calls.{Call, refused}
 use Rattle.verdicts.specs.Refusals.{lent-refuses}
-use Rattle.layer.specs.Accepts.{read-room, ready-shape, ready-sane, ready, refuses, accepts}
-use Rattle.layer.specs.Reads.{read-counts, read-lists, read-leaves}
+use Rattle.accepted.specs.Accepts.{read-room, ready-shape, ready-sane, ready, refuses, accepts}
+use Rattle.accepted.specs.Reads.{read-counts, read-lists, read-leaves}
 use Rattle.layer.proofs.read.Statement.{statement}
 use Rattle.layer.proofs.read.Tie as tie
 

@@ -4,8 +4,8 @@ use Rattle.rules.specs.Lent.{lent}
 use Rattle.rules.specs.Device.{deviceOf}
 use Rattle.rules.specs.Calls.{Call, refused}
 use Rattle.verdicts.specs.Refusals.{lent-refuses}
-use Rattle.layer.specs.Accepts.{trim-refusal, ready-shape, ready-sane, ready, refuses, accepts}
-use Rattle.layer.specs.Trims.{trim-cut, trim-leaves, trim-counts, trim-lists}
+use Rattle.accepted.specs.Accepts.{trim-refusal, ready-shape, ready-sane, ready, refuses, accepts}
+use Rattle.accepted.specs.Trims.{trim-cut, trim-leaves, trim-counts, trim-lists}
 use Rattle.layer.proofs.trim.Statement.{statement}
 use Rattle.layer.proofs.trim.Tie as tie
 

@@ -3,7 +3,7 @@ use Rattle.rules.specs.Lent.{lent}
 use Rattle.rules.specs.Device.{deviceOf}
 use Rattle.rules.specs.Calls.{Call, refused}
 use Rattle.verdicts.specs.Refusals.{lent-refuses}
-use Rattle.layer.specs.Accepts.{write-room, ready-shape, ready-sane, ready, refuses}
+use Rattle.accepted.specs.Accepts.{write-room, ready-shape, ready-sane, ready, refuses}
 use Rattle.layer.proofs.write.Statement.{statement}
 use Rattle.layer.proofs.write.Tie as tie
 

@@ -1,4 +1,4 @@
-use Rattle.placing.specs.Blocks.{raised-by}
+use Rattle.targets.specs.Blocks.{raised-by}
 use borrow.Author.Needs.{needs}
 use Rattle.placing.proofs.raise.Statement.{statement}
 use Rattle.placing.proofs.raise.Tie as tie

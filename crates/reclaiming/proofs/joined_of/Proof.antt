@@ -4,8 +4,8 @@ use mathlib.Core.Logic.{⊎-elim}
 use Rattle.rules.specs.Counting.{one, count}
 use Rattle.rules.specs.Extents.{joinable, slots}
 use Rattle.laws.specs.Sums.{count-le}
-use Rattle.reclaiming.specs.Covered.{covered}
-use Rattle.reclaiming.specs.Ranks.{ranks-movable}
+use Rattle.choosing.specs.Covered.{covered}
+use Rattle.choosing.specs.Ranks.{ranks-movable}
 use Rattle.reclaiming.specs.Slot.{joinsAfter, count-start, count-next, remapped-count}
 use borrow.Author.Needs.{needs}
 use native.Mathlib.Omega.{arith}

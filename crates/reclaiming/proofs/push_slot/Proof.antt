@@ -1,7 +1,5 @@
-use mathlib.Core.Path.{sym, ap, _∙_}
+use mathlib.Core.Path.{sym, _∙_}
 use lib.ListN.{length-set}
-use Rattle.rules.specs.Extents.{slot}
-use Rattle.rules.specs.declared.Extent.{Extent}
 use Rattle.reclaiming.specs.Slot.{Last, joins-last, pushed-joined, pushed-apart}
 use borrow.Author.Needs.{needs}
 use native.Mathlib.Omega.{arith}
@@ -9,13 +7,8 @@ use Rattle.reclaiming.proofs.push_slot.Statement.{statement}
 use Rattle.reclaiming.proofs.push_slot.Tie as tie
 
 -- the slot that it is joined with
-last : (c : tie.Then1) → Last (c .before .before .before .before .before .before .args .n) (c .before .before .before .before .before .before .args .ext .now) (c .before .before .before .before .before .before .args .w) (slot (c .before .before .before .before .before .before .args .ext .now) (c .before .before .before .before .before .before .args .i))
-last c =
-    joins-last (c .before .before .before .before .before .before .args .n) (c .before .before .before .before .before .before .args .ext .now) (c .before .before .before .before .before .before .args .w) (slot (c .before .before .before .before .before .before .args .ext .now) (c .before .before .before .before .before .before .args .i))
-    (sym (c .before .joins-last .ensures) ∙ c .if1 .taken)
-
-slot-at-requires : tie.Need-slot-at-requires
-slot-at-requires c κs = search needs
+last : (c : tie.Then1) → Last (c .before .before .before .before .args .n) (c .before .before .before .before .args .ext .now) (c .before .before .before .before .args .w) (c .before .before .before .before .args .x)
+last c = joins-last (c .before .before .before .before .args .n) (c .before .before .before .before .args .ext .now) (c .before .before .before .before .args .w) (c .before .before .before .before .args .x) (sym (c .before .joins-last .ensures) ∙ c .if1 .taken)
 
 joins-last-requires : tie.Need-joins-last-requires
 joins-last-requires c κs = search needs
@@ -36,7 +29,7 @@ slice-read-ext : tie.Need-slice-read-ext
 slice-read-ext c = omega (arith, last (c .before) .some)
 
 add-ext : tie.Need-add-ext
-add-ext c = omega (arith, last (c .before .before) .some, last (c .before .before) .logical, ap (λ (e : Extent). e .count) (c .before .before .before .before .before .slot-at .ensures))
+add-ext c = omega (arith, last (c .before .before) .some, last (c .before .before) .logical)
 
 slice-write-ext : tie.Need-slice-write-ext
 slice-write-ext c = omega (arith, last (c .before .before) .some)
@@ -45,8 +38,7 @@ same-length : tie.Need-same-length
 same-length c = simp length-set
 
 returns : tie.Need-returns
-returns c = pushed-joined (c .before .before .before .before .before .before .before .before .args .n) (c .before .before .before .before .before .before .before .before .args .ext .now) (c .before .before .before .before .before .before .before .before .args .w) (c .before .before .before .before .before .before .before .before .args .i) (c .before .before .before .before .before .slot-at .result) (omega arith) (omega arith) (c .before .before .before .before .before .slot-at .ensures)
-    (sym (c .before .before .before .joins-last .ensures) ∙ c .before .before .if1 .taken)
+returns c = pushed-joined (c .before .before .before .before .before .before .args .n) (c .before .before .before .before .before .before .args .ext .now) (c .before .before .before .before .before .before .args .w) (c .before .before .before .before .before .before .args .x) (omega arith) (sym (c .before .before .before .joins-last .ensures) ∙ c .before .before .if1 .taken)
 
 put-slot-requires : tie.Need-put-slot-requires
 put-slot-requires c κs = search needs
@@ -58,14 +50,13 @@ same-length-2 : tie.Need-same-length-2
 same-length-2 c = search needs
 
 returns-2 : tie.Need-returns-2
-returns-2 c = pushed-apart (c .before .before .before .before .before .before .before .before .before .before .args .n) (c .before .before .before .before .before .before .before .before .before .before .args .ext .now) (c .before .before .put-slot .last .0) (c .before .before .before .before .before .before .before .before .before .before .args .w) (c .before .before .before .before .before .before .before .before .before .before .args .i) (c .before .before .before .before .before .before .before .slot-at .result) (omega arith) (omega arith) (c .before .before .before .before .before .before .before .slot-at .ensures)
+returns-2 c = pushed-apart (c .before .before .before .before .before .before .before .before .args .n) (c .before .before .before .before .before .before .before .before .args .ext .now) (c .before .before .put-slot .last .0) (c .before .before .before .before .before .before .before .before .args .w) (c .before .before .before .before .before .before .before .before .args .x) (omega arith)
     (sym (c .before .before .before .before .before .joins-last .ensures) ∙ c .before .before .before .before .if1 .left) (c .before .before .put-slot .ensures)
 
 pub push-slot-spec : {M : Type 1} → statement M
 push-slot-spec =
     tie.close
     (tie.spec
-    slot-at-requires
     joins-last-requires
     sub-at
     mul-at

@@ -2,7 +2,7 @@
 use native.Mathlib.Omega.{arith}
 use borrow.Author.Tests.{not-false}
 use Rattle.laws.specs.Shapes.{shape-true}
-use Rattle.state.specs.Says.{told-no, told-yes}
+use Rattle.words.specs.Says.{told-no, told-yes}
 use Rattle.state.specs.Sound.{walk-given, head-no, slots-no, blocks-said}
 use borrow.Author.Needs.{needs}
 use Rattle.state.proofs.is_sound.Statement.{statement}

@@ -1,0 +1,90 @@
+-- What a read that nothing refuses lists and leaves.
+use Prim.Native.Nat.{ℕ, suc, _+_, _*_, _≤_, _<_}
+use mathlib.Core.Path.{_≡_, refl, sym, ap, _∙_}
+use mathlib.Core.List.{List, [], _∷_}
+use native.Mathlib.Omega.{arith}
+use lib.Dec.{ltb}
+use lib.ListN.{length}
+use Rattle.rules.specs.Extents.{none, end, flat}
+use Rattle.rules.specs.Lent.{Lent, inUse}
+use Rattle.rules.specs.Device.{deviceOf, wordsOf}
+use Rattle.rules.specs.Read.{hole, holes, found}
+use Rattle.rules.specs.Calls.{Call, counts, leaves, lists, over}
+use Rattle.rules.specs.declared.Extent.{Extent}
+use Rattle.laws.specs.Bools.{cases}
+use Rattle.laws.specs.Rows.{Rows}
+use Rattle.laws.specs.Cut.{below, from, from-rows}
+use Rattle.laws.specs.Counts.{below-length, from-length, tally-le}
+use Rattle.laws.specs.Slots.{slots-length}
+use Rattle.laws.specs.Shapes.{lines-pages, pages-high}
+use Rattle.laws.specs.States.{device-lines, device-words}
+use Rattle.reading.specs.Walk.{between}
+use Rattle.verdicts.specs.Reading.{found-words}
+use Rattle.accepted.specs.Accepts.{Ready}
+
+-- ---- a piece for each extent and a hole for each gap, at most
+
+hole-length : (a b : ℕ) (es : List Extent) → length (hole a b es) ≤ suc (length es)
+unfolding hole
+hole-length a b es = cases (ltb a b) (λ e. rw e (omega arith)) (λ e. rw e (omega arith))
+
+holes-length : (a b : ℕ) (es : List Extent) → length (holes a b es) ≤ 2 * length es + 1
+unfolding holes
+holes-length a b [] = omega (arith, hole-length a b [])
+holes-length a b (e ∷ es) = omega (arith, hole-length a (e .logical) (e ∷ holes (end e) b es), holes-length (end e) b es)
+
+few-pieces : (n hi l e : ℕ) (es : List Extent) → e ≤ hi → l ≤ hi → Rows n 0 none hi es → length (between l e es) ≤ 2 * length es + 1
+few-pieces n hi l e es g f h =
+    let r = from-rows n hi l es 0 none f h in
+    omega (
+      arith,
+      holes-length l e (below e (from l es)),
+      below-length n hi e (from l es) l none r,
+      tally-le (λ x. ltb (x .logical) e) (from l es),
+      from-length n hi l es 0 none h,
+      tally-le (λ x. ltb l (end x)) es,
+    )
+
+-- k pieces listed in the answer buffer
+pub record ListedPieces (l n : ℕ) (s : Lent) (k : ℕ) (out after : List ℕ) : Type 0 where
+  pub pieces : k ≡ length (between l (l + n) (inUse s))
+  pub words : after ≡ over (flat (between l (l + n) (inUse s))) out
+
+module _ (l n : ℕ) (out : List ℕ) (s : Lent) (z : Ready (Call.read l n out) s) where
+  pub read-inside : (0 < n) × (l + n ≤ s .head .logical) × (s .head .logical ≤ 262144)
+  read-inside =
+      let t = z .taken .range in
+      let i = t .inside in
+      (t .some, omega (arith, device-lines s), omega (arith, lines-pages (z .shape .sizes), pages-high (z .shape .sizes)))
+
+  is-found : found l n (deviceOf s) ≡ between l (l + n) (inUse s)
+  is-found = found-words s (z .shape) (z .sane) l n (read-inside .1)
+
+  pub read-slots : 3 * s .head .used ≤ length (s .extents)
+  read-slots = omega (arith, z .shape .extents, z .sane .few)
+
+  pub read-fits : 3 * length (between l (l + n) (inUse s)) ≤ length out
+  read-fits = let r = z .taken .room in omega (arith, ap length is-found)
+
+  pub read-few : length (between l (l + n) (inUse s)) ≤ 16385
+  read-few =
+      let i = read-inside in
+      omega (
+        arith,
+        few-pieces (s .head .pages) (s .head .logical) l (l + n) (inUse s) (i .1) (omega arith) (z .sane .rows),
+        slots-length (s .extents) 0 (s .head .used),
+        z .sane .few,
+        z .shape .sizes .m-high,
+      )
+
+  pub read-counts : (k : ℕ) → k ≡ length (between l (l + n) (inUse s)) → k ∷ [] ≡ counts (Call.read l n out) (deviceOf s)
+  unfolding counts
+  read-counts k e = ap (λ (x : ℕ). x ∷ []) (e ∙ sym (ap length is-found))
+
+  pub read-lists : (o : List ℕ) → o ≡ over (flat (between l (l + n) (inUse s))) out → o ≡ over (lists (Call.read l n out) (deviceOf s)) out
+  unfolding lists
+  read-lists o e = e ∙ ap (λ (es : List Extent). over (flat es) out) (sym is-found)
+
+  pub read-leaves : s ≡ wordsOf (leaves (Call.read l n out) (deviceOf s))
+  unfolding leaves
+  read-leaves = sym (device-words s (z .shape) (z .sane))

@@ -1,0 +1,212 @@
+-- What cutting a range out of a sound state leaves: the words of the device whose lines in the range are holes. A trim is this and a number; a
+-- write begins with it.
+use Prim.Native.Nat.{ℕ, _+_, _-_, _*_, _/_, _≤_, _<_}
+use mathlib.Core.Path.{_≡_, refl, sym, ap, ap₂, _∙_}
+use mathlib.Core.List.{List, [], _∷_, _++_}
+use mathlib.Core.Logic.{by-cases}
+use native.Mathlib.Omega.{arith}
+use native.Mathlib.Decide.{decLt}
+use borrow.Author.Tests.{ne-eqb}
+use lib.Dec.{eqb}
+use lib.ListN.{length, getD, replicate, List·getD-eq-default}
+use Rattle.rules.specs.Counting.{sum, count}
+use Rattle.rules.specs.Extents.{none, lookup, slot, slots, flat}
+use Rattle.rules.specs.Blocks.{stride, fillWord, validWord, records}
+use Rattle.rules.specs.Lent.{Lent, lent, inUse, fillOf, validOf}
+use Rattle.rules.specs.Device.{Device, blocks, lines, at, mapped, valid, extents, deviceOf, headOf, wordsOf}
+use Rattle.rules.specs.Number.{withTable, trimmed}
+use Rattle.rules.specs.Calls.{Call, counts, leaves, lists, over}
+use Rattle.rules.specs.declared.Head.{Head}
+use Rattle.rules.specs.declared.Extent.{Extent}
+use Rattle.laws.specs.Sums.{sum-zero, count-same}
+use Rattle.laws.specs.Sane.{Shaped, Sane, pagesIn}
+use Rattle.laws.specs.Shapes.{lines-pages, pages-high}
+use Rattle.laws.specs.Cut.{cut}
+use Rattle.laws.specs.Device.{none-block}
+use Rattle.laws.specs.Lines.{trimmed-lines}
+use Rattle.laws.specs.Valid.{trim-valid}
+use Rattle.laws.specs.Encoded.{trim-extents}
+use Rattle.laws.specs.Tallies.{inRange, total, total-slots, in-range-slots, in-slots}
+use Rattle.laws.specs.Records.{words-records}
+use Rattle.laws.specs.States.{device-lines, device-blocks, device-at, device-fill, sane-good, extents-in-use, valid-in-use}
+use Rattle.map.specs.Padded.{padded, Holds, Becomes, zeros-holds}
+use Rattle.map.specs.Sound.{Sound}
+use Rattle.cutting.specs.Cutting.{Cuttable}
+use Rattle.blocks.specs.Lowered.{Lowered, Lowerable, total-enough}
+use Rattle.accepted.specs.Accepts.{Ready}
+
+-- lines l, l + 1, .., n of them, can be cut out of the state
+pub record Cut (l n : ℕ) (s : Lent) : Type 0 where
+  pub shape : Shaped s
+  pub sane : Sane s
+  pub some : 0 < n
+  pub inside : l + n ≤ s .head .logical
+  pub nodes : length (extents (trimmed 0 l n (deviceOf s))) ≤ s .head .slots
+
+-- the device with holes in the range
+abbrev pub holed : ℕ → ℕ → Lent → Device
+holed l n s = trimmed 0 l n (deviceOf s)
+
+-- the words of it: what is left of the extents in the first u slots, and its block records
+pub record Holed (l n : ℕ) (s : Lent) (u : ℕ) (ext blk : List ℕ) : Type 0 where
+  pub map : Becomes (length (s .extents)) (cut l (l + n) (inUse s)) ext u
+  pub blocks : blk ≡ wordsOf (holed l n s) .blocks
+
+module _ (l n : ℕ) (s : Lent) (z : Cut l n s) where
+  abbrev d : Device
+  d = deviceOf s
+
+  good : Rattle.laws.specs.Sane.Good (deviceOf s)
+  good = sane-good s (z .shape) (z .sane)
+
+  pub cut-line : l + n ≤ 262144
+  cut-line = omega (arith, z .inside, lines-pages (z .shape .sizes), pages-high (z .shape .sizes))
+
+  pub cut-slots : 3 * s .head .used ≤ length (s .extents)
+  cut-slots = omega (arith, z .shape .extents, z .sane .few)
+
+  -- ---- the extents
+
+  pub cut-extents : cut l (l + n) (inUse s) ≡ extents (holed l n s)
+  cut-extents =
+      ap (cut l (l + n)) (sym (extents-in-use s (z .shape) (z .sane)))
+      ∙ trim-extents 0 l n (deviceOf s) (good .sound) (z .some) (omega (arith, z .inside, device-lines s))
+
+  pub cuttable : Cuttable (s .extents) (s .head .used) l (l + n)
+  cuttable = record {
+    held = zeros-holds (s .extents) (s .head .used) cut-slots (z .sane .zeros);
+    sound = record { pages = s .head .pages; logical = s .head .logical; rows = z .sane .rows };
+    range = omega (arith, z .some);
+    room = omega (arith, ap length cut-extents, z .nodes, z .shape .extents);
+  }
+
+  slots-same : holed l n s .slots ≡ s .head .slots
+  unfolding trimmed withTable deviceOf
+  slots-same = refl
+
+  pub cut-words : (ext : List ℕ) → ext ≡ padded (length (s .extents)) (cut l (l + n) (inUse s)) → ext ≡ wordsOf (holed l n s) .extents
+  unfolding padded wordsOf
+  cut-words ext e =
+      let k : length (s .extents) - 3 * length (extents (holed l n s)) ≡ 3 * (holed l n s .slots - length (extents (holed l n s))) = omega (arith, z .shape .extents, slots-same) in
+      e ∙ ap (λ (es : List Extent). flat es ++ replicate (length (s .extents) - 3 * length es) 0) cut-extents
+      ∙ ap (λ (m : ℕ). flat (extents (holed l n s)) ++ replicate m 0) k
+
+  -- ---- the blocks
+
+  not-none : (c : ℕ) → c < s .head .blocks → none / s .head .pages ≡ c → ⊥
+  unfolding deviceOf
+  not-none c h = none-block (deviceOf s) (good .sound) c (omega (arith, device-blocks s))
+
+  -- the lines of the range that lie in block c
+  lost : (c : ℕ) → c < s .head .blocks → count n (λ i. eqb (at (deviceOf s) (l + i) / s .head .pages) c) ≡ total (inRange (s .head .pages) c l (l + n)) (inUse s)
+  lost c h =
+      count-same n (λ i. eqb (at (deviceOf s) (l + i) / s .head .pages) c) (λ i. eqb (lookup (inUse s) (l + i) / s .head .pages) c)
+      (λ i p. ap (λ (x : ℕ). eqb (x / s .head .pages) c) (device-at s (l + i) (omega (arith, z .inside))))
+      ∙ in-range-slots (s .head .pages) (s .head .logical) c (not-none c h) (s .extents) (s .head .used) 0 none (z .sane .rows) l n
+      ∙ sym (total-slots (inRange (s .head .pages) c l (l + n)) (s .extents) (s .head .used))
+
+  held : (c : ℕ) → c < s .head .blocks → total (inRange (s .head .pages) c 0 (s .head .logical)) (inUse s) ≡ validOf s c
+  held c h =
+      let top : s .head .logical ≡ 0 + s .head .logical = omega arith in
+      total-slots (inRange (s .head .pages) c 0 (s .head .logical)) (s .extents) (s .head .used)
+      ∙ ap (λ (x : ℕ). sum (s .head .used) (λ i. inRange (s .head .pages) c 0 x (slot (s .extents) i))) top
+      ∙ sym (in-range-slots (s .head .pages) (s .head .logical) c (not-none c h) (s .extents) (s .head .used) 0 none (z .sane .rows) 0 (s .head .logical))
+      ∙ count-same (s .head .logical) (λ i. eqb (lookup (inUse s) (0 + i) / s .head .pages) c) (λ i. eqb (lookup (inUse s) i / s .head .pages) c)
+      (λ i p. let e : 0 + i ≡ i = omega arith in ap (λ (x : ℕ). eqb (lookup (inUse s) x / s .head .pages) c) e)
+      ∙ in-slots (s .head .pages) (s .head .logical) c (not-none c h) (s .extents) (s .head .used) (z .sane .rows)
+      ∙ sym (z .sane .counts c h)
+
+  -- no slot lies in a block that is not there
+  nowhere : (c : ℕ) → s .head .blocks ≤ c → total (inRange (s .head .pages) c l (l + n)) (inUse s) ≡ 0
+  unfolding inRange
+  nowhere c h =
+      total-slots (inRange (s .head .pages) c l (l + n)) (s .extents) (s .head .used)
+      ∙ sum-zero (s .head .used) (λ i. inRange (s .head .pages) c l (l + n) (slot (s .extents) i))
+      (λ i p. rw (ne-eqb (slot (s .extents) i .physical / s .head .pages) c (λ g. omega (arith, z .sane .inside i p))))
+
+  pub lowerable : Lowerable (s .extents) (s .head .used) (s .head .pages) l (l + n) (s .blocks)
+  lowerable = record {
+    within = cut-slots;
+    some = z .shape .sizes .n-low;
+    inside = λ i p. omega (arith, z .sane .inside i p, z .shape .blocks);
+    enough = λ b. by-cases (decLt b (s .head .blocks))
+        (λ h. omega (arith, total-enough (s .head .pages) b l (l + n) (s .head .logical) (inUse s) (z .inside), held b h))
+        (λ h. omega (arith, nowhere b (omega arith)));
+  }
+
+  pub lowered-words : (blk : List ℕ) → Lowered (s .head .pages) l (l + n) (inUse s) (s .blocks) blk → blk ≡ wordsOf (holed l n s) .blocks
+  unfolding wordsOf trimmed withTable deviceOf
+  lowered-words blk w =
+      sym (words-records (s .head .blocks) blk 0 (fillOf s) (valid (holed l n s)) (w .size ∙ z .shape .blocks)
+      (λ b h. sym (w .fills b))
+      (λ b j h e. let q : j ≡ b = omega arith in
+      ap (valid (holed l n s)) q ∙ left b h))
+    where
+      left : (b : ℕ) → b < s .head .blocks → valid (holed l n s) b ≡ validWord blk b
+      left b h =
+          omega (
+            arith,
+            trim-valid 0 l n (deviceOf s) (good .sound) (omega (arith, z .inside, device-lines s)) b (omega (arith, device-blocks s)),
+            lost b h,
+            valid-in-use s (z .shape) (z .sane) b h,
+            w .valids b,
+          )
+
+  pub holed-is : (used : ℕ) (ext blk : List ℕ) → Becomes (length (s .extents)) (cut l (l + n) (inUse s)) ext used
+      → Lowered (s .head .pages) l (l + n) (inUse s) (s .blocks) blk → Holed l n s used ext blk
+  holed-is used ext blk b w = record { map = b; blocks = lowered-words blk w }
+
+-- ---- a trim
+
+module _ (k l n : ℕ) (s : Lent) (z : Ready (Call.trim k l n) s) where
+  same-slots : trimmed k l n (deviceOf s) .slots ≡ s .head .slots
+  unfolding trimmed withTable deviceOf
+  same-slots = refl
+
+  same-extents : extents (trimmed k l n (deviceOf s)) ≡ extents (trimmed 0 l n (deviceOf s))
+  unfolding trimmed withTable extents
+  same-extents = refl
+
+  pub trim-cut : Cut l n s
+  trim-cut = record {
+    shape = z .shape;
+    sane = z .sane;
+    some = z .taken .range .some;
+    inside = let i = z .taken .range .inside in omega (arith, device-lines s);
+    nodes = omega (arith, z .taken .nodes, same-slots, ap length same-extents);
+  }
+
+  abbrev trimHead : ℕ → Head
+  trimHead used = record {
+    blocks = s .head .blocks;
+    pages = s .head .pages;
+    logical = s .head .logical;
+    slots = s .head .slots;
+    used = used;
+    reserve = s .head .reserve;
+    last = k;
+  }
+
+  pub trim-leaves : (used : ℕ) (ext blk : List ℕ) → Holed l n s used ext blk → lent (trimHead used) ext blk (s .spare) ≡ wordsOf (leaves (Call.trim k l n) (deviceOf s))
+  unfolding leaves wordsOf headOf trimmed withTable deviceOf extents valid mapped
+  trim-leaves used ext blk w = λ i. lent
+      (record {
+        blocks = sym (device-blocks s) i;
+        pages = s .head .pages;
+        logical = (sym (device-lines s) ∙ sym (trimmed-lines k l n (deviceOf s))) i;
+        slots = s .head .slots;
+        used = (w .map .used ∙ ap length (cut-extents l n s trim-cut)) i;
+        reserve = s .head .reserve;
+        last = k;
+      })
+      (cut-words l n s trim-cut ext (w .map .is) i)
+      (w .blocks i)
+      (s .spare)
+
+  pub trim-counts : [] ≡ counts (Call.trim k l n) (deviceOf s)
+  unfolding counts
+  trim-counts = refl
+
+  pub trim-lists : [] ≡ over (lists (Call.trim k l n) (deviceOf s)) []
+  unfolding lists over
+  trim-lists = refl

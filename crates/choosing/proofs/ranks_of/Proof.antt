@@ -1,0 +1,34 @@
+use lib.ListN.{getD-replicate}
+use Rattle.rules.specs.Extents.{slots}
+use Rattle.laws.specs.Sums.{one-le}
+use Rattle.choosing.specs.Covered.{covered}
+use Rattle.choosing.specs.Ranks.{marks-ranks}
+use borrow.Author.Needs.{needs}
+use native.Mathlib.Omega.{arith}
+use Rattle.choosing.proofs.ranks_of.Statement.{statement}
+use Rattle.choosing.proofs.ranks_of.Tie as tie
+
+slice-aggregate-mark-slots : tie.Need-slice-aggregate-mark-slots
+slice-aggregate-mark-slots c = search needs
+
+mark-slots-requires : tie.Need-mark-slots-requires
+mark-slots-requires c κs = ((omega arith, omega arith, omega arith), (c .before .before .pre .1, λ o h. getD-replicate 257 o 0 0 (omega arith)))
+
+slice-aggregate-add-up : tie.Need-slice-aggregate-add-up
+slice-aggregate-add-up c = search needs
+
+add-up-requires : tie.Need-add-up-requires
+add-up-requires c κs = (omega arith, omega arith, λ o h. omega (arith, c .before .before .mark-slots .ensures o h, one-le (covered (slots (c .before .before .before .before .before .args .ext .now) 0 (c .before .before .before .before .before .args .used)) (c .before .before .before .before .before .args .n) (c .before .before .before .before .before .args .v) o)))
+
+returns : tie.Need-returns
+returns c = marks-ranks (c .before .before .before .before .before .before .before .args .ext .now) (c .before .before .before .before .before .before .before .args .used) (c .before .before .before .before .before .before .before .args .n) (c .before .before .before .before .before .before .before .args .v) (c .before .before .before .before .mark-slots .last .0) (c .before .add-up .last .0) (omega arith) (c .before .before .before .before .mark-slots .ensures) (c .before .add-up .ensures)
+
+pub ranks-of-spec : {M : Type 1} → statement M
+ranks-of-spec =
+    tie.close
+    (tie.spec
+    slice-aggregate-mark-slots
+    mark-slots-requires
+    slice-aggregate-add-up
+    add-up-requires
+    returns)

@@ -1,0 +1,5 @@
+pub mod Stale
+pub mod Covered
+pub mod Ranks
+pub mod Part
+pub mod Sources

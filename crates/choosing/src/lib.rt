@@ -1,0 +1,109 @@
+// What a reclaim takes: the victim, where each of its mapped pages goes, and the list of copies.
+ghost use mathlib.Core.Path.{_≡_};
+ghost use Prim.Native.Nat.{ℕ, _+_, _*_, _%_, _<_, _≤_};
+ghost use lib.ListN.{length, getD};
+ghost use Rattle.rules.specs.Counting.{most, count};
+ghost use Rattle.rules.specs.Blocks.{stride, fillWord, validWord};
+ghost use Rattle.rules.specs.Extents.{none, slot, slots};
+ghost use Rattle.rules.specs.Calls.{over};
+ghost use Rattle.words.specs.Store.{stored};
+ghost use Rattle.choosing.specs.Stale.{staleWord};
+ghost use Rattle.choosing.specs.Covered.{covered};
+ghost use Rattle.choosing.specs.Ranks.{Ranks, rises, marked, Marks, sums};
+ghost use Rattle.choosing.specs.Sources.{livePages};
+
+fn stale_of(blk: &[u32], b: usize) -> u32
+    requires { ⌜ (stride * b + 1 < length (now blk)) × (validWord (now blk) b ≤ fillWord (now blk) b) ⌝ }
+    ensures { λ s. ⌜ s ≡ staleWord (now (blk .entry)) b ⌝ }
+{
+    words::fill_of(blk, b) - words::valid_of(blk, b)
+}
+
+// The block with most stale pages, the lowest of these.
+pub fn victim_of(blk: &[u32], blocks: u32) -> u32
+    requires { ⌜ (stride * blocks ≤ length (now blk)) × ((b : ℕ) → b < blocks → validWord (now blk) b ≤ fillWord (now blk) b) ⌝ }
+    ensures { λ v. ⌜ v ≡ most blocks (staleWord (now (blk .entry))) ⌝ }
+{
+    let mut v: u32 = 0;
+    let mut b: u32 = 0;
+    while b < blocks {
+        if stale_of(blk, v as usize) < stale_of(blk, b as usize) {
+            v = b;
+        }
+        b += 1;
+    }
+    v
+}
+
+// Ones at the offsets of slot i, where it lies in block v.
+fn mark_slot(marks: &mut [u32], ext: &[u32], i: usize, n: u32, v: u32)
+    requires { ⌜ (3 * i + 2 < length (now ext)) × (1 ≤ n) × (n ≤ length (now marks)) × (slot (now ext) i .physical % n + slot (now ext) i .count ≤ n) ⌝ }
+    ensures { λ _. ⌜ now (marks .exit) ≡ marked (slot (now (ext .entry)) i) n v (now (marks .entry)) ⌝ }
+{
+    let at = 3 * i;
+    let p = ext[at + 1];
+    if p / n != v {
+        return;
+    }
+    let o = (p % n) as usize;
+    let c = ext[at + 2] as usize;
+    words::fill_with(&mut marks[o..o + c], 1);
+}
+
+// Ones at the offsets of the mapped pages of block v.
+fn mark_slots(marks: &mut [u32], ext: &[u32], used: usize, n: u32, v: u32)
+    requires { ⌜ (3 * used ≤ length (now ext)) × (1 ≤ n) × (n ≤ length (now marks)) ⌝ }
+    requires { ⌜ ((i : ℕ) → i < used → slot (now ext) i .physical % n + slot (now ext) i .count ≤ n) ⌝ }
+    requires { ⌜ ((o : ℕ) → o < n → getD (now marks) o 0 ≡ 0) ⌝ }
+    ensures { λ _. ⌜ Marks (now (ext .entry)) used n v (now (marks .exit)) ⌝ }
+{
+    let mut i: usize = 0;
+    while i < used {
+        mark_slot(marks, ext, i, n, v);
+        i += 1;
+    }
+}
+
+// At each offset up to n the sum of the marks before it.
+fn add_up(marks: &mut [u32], n: usize)
+    requires { ⌜ (n < length (now marks)) × (n ≤ 256) × ((o : ℕ) → o < n → getD (now marks) o 0 ≤ 1) ⌝ }
+    ensures { λ _. ⌜ now (marks .exit) ≡ stored (sums (now (marks .entry))) (n + 1) (now (marks .entry)) ⌝ }
+{
+    let mut k: u32 = 0;
+    let mut o: usize = 0;
+    while o < n {
+        let m = marks[o];
+        marks[o] = k;
+        k += m;
+        o += 1;
+    }
+    marks[n] = k;
+}
+
+// The rank of each offset of block v, and at n the number of its mapped pages.
+pub fn ranks_of(ext: &[u32], used: usize, n: u32, v: u32) -> [u32; 257]
+    requires { ⌜ (3 * used ≤ length (now ext)) × (1 ≤ n) × (n ≤ 256) ⌝ }
+    requires { ⌜ ((i : ℕ) → i < used → slot (now ext) i .physical % n + slot (now ext) i .count ≤ n) ⌝ }
+    ensures { λ ranks. ⌜ Ranks n (covered (slots (now (ext .entry)) 0 used) n v) ranks ⌝ }
+{
+    let mut ranks = [0u32; 257];
+    mark_slots(&mut ranks, ext, used, n, v);
+    add_up(&mut ranks, n as usize);
+    ranks
+}
+
+// The mapped pages of block v, in physical order: offset o is mapped where the rank rises behind it.
+pub fn list_sources(ranks: &[u32], n: u32, v: u32, out: &mut [u32])
+    requires { ⌜ Ranks n (rises (now ranks)) (now ranks) × (count n (rises (now ranks)) ≤ length (now out)) × (v * n + n ≤ none) ⌝ }
+    ensures { λ _. ⌜ now (out .exit) ≡ over (livePages n v (rises (now (ranks .entry)))) (now (out .entry)) ⌝ }
+{
+    let mut o: u32 = 0;
+    while o < n {
+        let at = o as usize;
+        let rank = ranks[at];
+        if rank < ranks[at + 1] {
+            out[rank as usize] = v * n + o;
+        }
+        o += 1;
+    }
+}

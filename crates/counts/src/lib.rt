@@ -1,0 +1,89 @@
+// The block records: does each stand as rules 3 and 5 ask, and what do they come to? `totals_of` takes those of a sound state.
+use rules::Head;
+ghost use mathlib.Core.Path.{_≡_};
+ghost use Prim.Native.Nat.{ℕ, _<_, _≤_};
+ghost use Rattle.words.specs.Says.{Says};
+ghost use Rattle.counts.specs.Block.{Labels, Framed, Block};
+ghost use Rattle.counts.specs.Totals.{Filled, Totalled, roomLeft};
+
+// Rule 3 for one block: its fill, and the spare entries of its pages.
+fn block_ok(fill: u32, part: &[u32], top: u32) -> bool
+    ensures { λ r. ⌜ Says r (Labels fill top (now (part .entry))) ⌝ }
+{
+    let f = fill as usize;
+    if f > part.len() {
+        return false;
+    }
+    if !words::all_below(&part[..f], top) {
+        return false;
+    }
+    words::all_are(&part[f..], 4294967295)
+}
+
+// Rules 3 and 5 for every block.
+pub fn blocks_ok(
+    blk: &[u32],
+    spare: &[u32],
+    blocks: usize,
+    n: usize,
+    top: u32,
+    tally: &[u32],
+) -> bool
+    requires { ⌜ Framed (now blk) (now spare) (now tally) blocks n ⌝ }
+    ensures { λ r. ⌜ Says r ((b : ℕ) → b < blocks → Block (now (blk .entry)) (now (spare .entry)) (now (tally .entry)) n top b) ⌝ }
+{
+    let mut b: usize = 0;
+    while b < blocks {
+        let from = b * n;
+        let to = from + n;
+        if !block_ok(words::fill_of(blk, b), &spare[from..to], top) {
+            return false;
+        }
+        if words::valid_of(blk, b) != tally[b] {
+            return false;
+        }
+        b += 1;
+    }
+    true
+}
+
+pub struct Totals {
+    pub free: u32,
+    pub live: u32,
+    pub stale: u32,
+}
+
+// The pages that block b has left for a write, its fill being f: none in the reserve.
+fn room_of(h: Head, b: usize, f: u32) -> u32
+    requires { ⌜ f ≤ h .pages ⌝ }
+    ensures { λ r. ⌜ r ≡ roomLeft h b f ⌝ }
+{
+    if b == h.reserve as usize {
+        return 0;
+    }
+    h.pages - f
+}
+
+// Free, live and stale, from the block records of a sound state.
+pub fn totals_of(h: Head, blk: &[u32]) -> Totals
+    requires { ⌜ Filled h (now blk) ⌝ }
+    ensures { λ r. ⌜ Totalled h (now (blk .entry)) r ⌝ }
+{
+    let mut free: u32 = 0;
+    let mut live: u32 = 0;
+    let mut stale: u32 = 0;
+    let mut b: usize = 0;
+    while b < h.blocks as usize {
+        let f = words::fill_of(blk, b);
+        let v = words::valid_of(blk, b);
+        free += room_of(h, b, f);
+        live += v;
+        stale += f - v;
+        b += 1;
+    }
+    Totals {
+        free: free,
+        live: live,
+        stale: stale,
+    }
+}

@@ -1,0 +1,126 @@
+-- A cut in place, step by step: what each step asks for, and what stands in the words at the end.
+use Prim.Native.Nat.{ℕ, _+_, _-_, _*_, _≤_, _<_}
+use mathlib.Core.Path.{_≡_, sym, ap, ap₂, _∙_, subst}
+use mathlib.Core.List.{List, _++_}
+use native.Mathlib.Omega.{arith}
+use lib.ListN.{length, getD, take, drop}
+use Rattle.rules.specs.Extents.{end, slot, slots}
+use Rattle.rules.specs.declared.Extent.{Extent}
+use Rattle.laws.specs.Cut.{cut}
+use Rattle.laws.specs.Slots.{slots-length}
+use Rattle.laws.specs.Counts.{startsBefore, endsAfter, cut-length, cut-bound}
+use Rattle.map.specs.Sound.{Sound, Piece, sound-piece}
+use Rattle.map.specs.Around.{starts-le, ends-le}
+use Rattle.map.specs.Padded.{padded, Holds, Becomes, became-length, became-slots, became-holds}
+use Rattle.map.specs.Clip.{clipRight, clipLeft, splitAt, blank, clip-right-length, clip-left-length, right-at, at-slot, sound-starts, sound-ends, cut-apart, cut-split}
+
+-- l up to e can be cut out of the extents in u slots
+pub record Cuttable (ws : List ℕ) (u l e : ℕ) : Type 0 where
+  pub held : Holds ws u
+  pub sound : Sound (slots ws 0 u)
+  pub range : l < e
+  pub room : 3 * length (cut l e (slots ws 0 u)) ≤ length ws
+
+-- of them, `before` start before l and `after` end after e begins
+module _ (ws : List ℕ) (u l e before after : ℕ) (k : Cuttable ws u l e) (b : before ≡ startsBefore l (slots ws 0 u)) (t : after ≡ endsAfter e (slots ws 0 u)) where
+  abbrev es : List Extent
+  es = slots ws 0 u
+
+  abbrev z : ℕ
+  z = u - after
+
+  h : Holds ws u
+  h = k .held
+
+  s : Sound es
+  s = k .sound
+
+  r : l < e
+  r = k .range
+
+  size : length es ≡ u
+  size = slots-length ws 0 u
+
+  count : length (cut l e es) ≡ before + after
+  count = cut-length (s .pages) (s .logical) l e es (s .rows) ∙ omega arith
+
+  most : before + after ≤ u + 1
+  most = omega (arith, count, size, cut-bound l e es (omega arith))
+
+  pub after-le : after ≤ u
+  after-le = ends-le e ws u after t
+
+  before-le : before ≤ u
+  before-le = starts-le l ws u before b
+
+  rest : z + endsAfter e es ≡ u
+  rest = omega (arith, after-le)
+
+  -- ---- one extent on both sides
+
+  pub split-ready : z < before
+      → Holds ws u × (z < u) × (3 * u + 3 ≤ length ws) × (slot ws z .logical < l) × (l < e) × (e < end (slot ws z)) × Piece (slot ws z)
+  split-ready a =
+      let in-use : z < u = omega (arith, before-le) in (
+        h,
+        in-use,
+        omega (arith, k .room, count, most, after-le),
+        sound-starts ws u s l z (omega arith),
+        r,
+        sound-ends ws u s e z rest in-use,
+        sound-piece ws u s z in-use,
+      )
+
+  pub split-done : z < before → (ws′ : List ℕ) → ws′ ≡ padded (length ws) (splitAt l e z es) → Becomes (length ws) (cut l e es) ws′ (u + 1)
+  split-done a ws′ g = record {
+    is = g ∙ ap (padded (length ws)) (cut-split (s .pages) (s .logical) l e es before z (s .rows) b (rest ∙ sym size) (omega (arith, most, after-le)));
+    used = omega (arith, count, most, after-le);
+  }
+
+  -- ---- extents of its own on each side
+
+  pub right-ready : before ≤ z → Holds ws u × (before ≤ u) × ((i : ℕ) → i + 1 ≡ before → slot ws i .logical < l)
+  right-ready a = (h, before-le, λ i g. sound-starts ws u s l i (omega arith))
+
+  module _ (a : before ≤ z) (mid : List ℕ) (g : mid ≡ padded (length ws) (clipRight l before es)) where
+    clipped : length (clipRight l before es) ≡ u
+    clipped = clip-right-length l before es ∙ size
+
+    mid-holds : Holds mid u
+    mid-holds = became-holds (length ws) (clipRight l before es) mid u g clipped (h .fits)
+
+    mid-slots : slots mid 0 u ≡ clipRight l before es
+    mid-slots = became-slots (length ws) (clipRight l before es) mid u g clipped (h .fits)
+
+    -- slot z is as it was
+    same : z < u → slot ws z ≡ slot mid z
+    same p =
+        sym (at-slot ws u z p) ∙ sym (right-at l before z es a) ∙ ap (λ (xs : List Extent). getD xs z blank) (sym mid-slots) ∙ at-slot mid u z p
+
+    pub left-ready : Holds mid u × (z < u → Piece (slot mid z) × (e < end (slot mid z)))
+    left-ready = (
+      mid-holds,
+      λ p. subst (λ (x : Extent). Piece x × (e < end x)) (same p) (sound-piece ws u s z p, sound-ends ws u s e z rest p),
+    )
+
+    module _ (mid₂ : List ℕ) (g₂ : mid₂ ≡ padded (length mid) (clipLeft e z (slots mid 0 u))) where
+      both : length (clipLeft e z (slots mid 0 u)) ≡ u
+      both = clip-left-length e z (slots mid 0 u) ∙ slots-length mid 0 u
+
+      pub close-ready : Holds mid₂ u × (before ≤ z) × (z ≤ u)
+      close-ready = (became-holds (length mid) (clipLeft e z (slots mid 0 u)) mid₂ u g₂ both (mid-holds .fits), a, omega arith)
+
+      pub cut-done : (ws′ : List ℕ) → ws′ ≡ padded (length mid₂) (take before (slots mid₂ 0 u) ++ drop z (slots mid₂ 0 u))
+          → Becomes (length ws) (cut l e es) ws′ (before + after)
+      cut-done ws′ g₃ =
+          let words : length mid₂ ≡ length ws =
+          became-length (length mid) (clipLeft e z (slots mid 0 u)) mid₂ u g₂ both (mid-holds .fits)
+          ∙ became-length (length ws) (clipRight l before es) mid u g clipped (h .fits) in
+          let held : slots mid₂ 0 u ≡ clipLeft e z (clipRight l before es) =
+          became-slots (length mid) (clipLeft e z (slots mid 0 u)) mid₂ u g₂ both (mid-holds .fits) ∙ ap (clipLeft e z) mid-slots in
+          record {
+            is =
+                g₃ ∙ ap₂ (λ (m : ℕ) (xs : List Extent). padded m (take before xs ++ drop z xs)) words held
+                ∙ ap (padded (length ws)) (cut-apart (s .pages) (s .logical) l e es before z (s .rows) b (rest ∙ sym size) a);
+            used = sym count;
+          }

@@ -1,0 +1,88 @@
+// A range cut out of the extents, in place.
+ghost use mathlib.Core.Path.{_≡_};
+ghost use Prim.Native.Nat.{ℕ, _+_, _*_, _<_, _≤_};
+ghost use mathlib.Core.List.{_++_};
+ghost use lib.ListN.{length, take, drop};
+ghost use Rattle.rules.specs.Extents.{end, slot, slots};
+ghost use Rattle.laws.specs.Cut.{cut};
+ghost use Rattle.map.specs.Sound.{Piece};
+ghost use Rattle.map.specs.Padded.{padded, Holds, Becomes};
+ghost use Rattle.map.specs.Clip.{clipRight, clipLeft, splitAt};
+ghost use Rattle.cutting.specs.Cutting.{Cuttable};
+
+// The slots from a up to z go, and those from z on move down.
+fn close(ext: &mut [u32], used: usize, a: usize, z: usize)
+    requires { ⌜ Holds (now ext) used × (a ≤ z) × (z ≤ used) ⌝ }
+    ensures { λ _. ⌜ now (ext .exit) ≡ padded (length (now (ext .entry))) (take a (slots (now (ext .entry)) 0 used) ++ drop z (slots (now (ext .entry)) 0 used)) ⌝ }
+{
+    let at = 3 * a;
+    let top = 3 * used;
+    words::shift_down(&mut ext[at..top], 3 * (z - a));
+}
+
+// Of a extents the last, which starts before l, ends there at the latest.
+fn clip_right(ext: &mut [u32], used: usize, a: usize, l: u32)
+    requires { ⌜ Holds (now ext) used × (a ≤ used) × ((i : ℕ) → i + 1 ≡ a → slot (now ext) i .logical < l) ⌝ }
+    ensures { λ _. ⌜ now (ext .exit) ≡ padded (length (now (ext .entry))) (clipRight l a (slots (now (ext .entry)) 0 used)) ⌝ }
+{
+    if a < 1 {
+        return;
+    }
+    let i = a - 1;
+    if map::end_of(ext, i) <= (l as u64) {
+        return;
+    }
+    let at = 3 * i;
+    let q = ext[at];
+    let p = ext[at + 1];
+    map::put(ext, used, i, q, p, l - q);
+}
+
+// The extent in slot z, where there is one, ends after e begins. It starts there at the earliest.
+fn clip_left(ext: &mut [u32], used: usize, z: usize, e: u32)
+    requires { ⌜ Holds (now ext) used × (z < used → Piece (slot (now ext) z) × (e < end (slot (now ext) z))) ⌝ }
+    ensures { λ _. ⌜ now (ext .exit) ≡ padded (length (now (ext .entry))) (clipLeft e z (slots (now (ext .entry)) 0 used)) ⌝ }
+{
+    if used <= z {
+        return;
+    }
+    let at = 3 * z;
+    let q = ext[at];
+    if e <= q {
+        return;
+    }
+    let p = ext[at + 1];
+    let c = ext[at + 2];
+    map::put(ext, used, z, e, p + (e - q), c - (e - q));
+}
+
+// The extent in slot i, which starts before l and ends after e begins, is taken apart.
+fn split(ext: &mut [u32], used: usize, i: usize, l: u32, e: u32)
+    requires { ⌜ Holds (now ext) used × (i < used) × (3 * used + 3 ≤ length (now ext)) × (slot (now ext) i .logical < l) × (l < e) × (e < end (slot (now ext) i)) × Piece (slot (now ext) i) ⌝ }
+    ensures { λ _. ⌜ now (ext .exit) ≡ padded (length (now (ext .entry))) (splitAt l e i (slots (now (ext .entry)) 0 used)) ⌝ }
+{
+    let at = 3 * i;
+    let q = ext[at];
+    let p = ext[at + 1];
+    let c = ext[at + 2];
+    map::insert(ext, used, i + 1, e, p + (e - q), c - (e - q));
+    map::put(ext, used + 1, i, q, p, l - q);
+}
+
+// The extents without the logical pages from l up to e. The slots then in use are returned.
+pub fn cut_out(ext: &mut [u32], used: usize, l: u32, e: u32) -> usize
+    requires { ⌜ Cuttable (now ext) used l e ⌝ }
+    ensures { λ r. ⌜ Becomes (length (now (ext .entry))) (cut l e (slots (now (ext .entry)) 0 used)) (now (ext .exit)) r ⌝ }
+{
+    let sides = map::around(ext, used, l, e);
+    let a = sides.before;
+    let z = used - sides.after;
+    if z < a {
+        split(ext, used, z, l, e);
+        return used + 1;
+    }
+    clip_right(ext, used, a, l);
+    clip_left(ext, used, z, e);
+    close(ext, used, a, z);
+    a + sides.after
+}

@@ -1,0 +1,11 @@
+pub mod Settle
+pub mod Flash
+pub mod Host
+pub mod Until
+pub mod Listed
+pub mod Agrees
+pub mod Reads
+pub mod Worlds
+pub mod Starts
+pub mod Demand2
+pub mod Demand3

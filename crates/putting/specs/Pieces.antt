@@ -1,0 +1,231 @@
+-- Pieces put in between what a cut left, the first of them joined to the extent in front of it where it goes on there; and that this is
+-- what a write makes of the extents.
+use Prim.Native.Nat.{ℕ, zero, suc, _+_, _-_, _*_, _%_, _≤_, _<_, _^_}
+use mathlib.Core.Path.{_≡_, refl, sym, ap, ap₂, _∙_, subst₂}
+use mathlib.Core.Bool.{Bool, true, false}
+use mathlib.Core.List.{List, [], _∷_, _++_, append-assoc}
+use native.Mathlib.Omega.{arith}
+use lib.ListN.{length, getD, take, drop, set, length-append, length-set, length-drop, take-append-drop, List·getD-append}
+use lib.Seq.{take-at, drop-at, set-append-left, length-take-le}
+use Rattle.rules.specs.Counting.{one}
+use Rattle.rules.specs.Extents.{none, extent, lookup, joinable, slot, slots}
+use Rattle.rules.specs.declared.Extent.{Extent}
+use Rattle.laws.specs.Bools.{cases}
+use Rattle.laws.specs.Rows.{Rows, rows-le}
+use Rattle.laws.specs.Runs.{joinable-first, join-joined, join-apart}
+use Rattle.laws.specs.Cut.{below, from, cut, below-rows}
+use Rattle.laws.specs.Write.{glue, place}
+use Rattle.laws.specs.Counts.{startsBefore, leftJoin, tally, tip, not-next, join-next, no-right, below-joins, below-length}
+use Rattle.laws.specs.Slots.{slots-length, slots-more}
+use Rattle.map.specs.Padded.{padded, Holds, Becomes, became-length, became-slots, became-holds}
+use Rattle.map.specs.Clip.{blank, at-slot}
+
+-- an extent with c pages more
+abbrev pub longer : ℕ → Extent → Extent
+longer c x = extent (x .logical) (x .physical) (x .count + c)
+
+-- pieces put in at slot i
+unfoldable pub spliced : ℕ → List Extent → List Extent → List Extent
+spliced i new es = take i es ++ (new ++ drop i es)
+
+-- the extent before slot i with c pages more
+unfoldable pub lengthened : ℕ → ℕ → List Extent → List Extent
+lengthened zero c es = es
+lengthened (suc i) c es = set es i (longer c (getD es i blank))
+
+-- new pieces at slot i, the first joined or not
+unfoldable pub putIn : ℕ → Bool → List Extent → List Extent → List Extent
+putIn i true new es = spliced i (drop 1 new) (lengthened i (getD new 0 blank .count) es)
+putIn i false new es = spliced i new es
+
+-- ---- a write
+
+-- extents in front of f, the last of them joined with it or not
+glue-apart : (n m : ℕ) (xs : List Extent) (f : Extent) (ys : List Extent) (lo q : ℕ) → Rows n lo q m xs → leftJoin n f xs ≡ 0
+    → glue n xs (f ∷ ys) ≡ xs ++ f ∷ ys
+unfolding glue tally
+glue-apart n m [] f ys lo q h s = refl
+glue-apart n m (x ∷ []) f ys lo q h s =
+    cases (joinable n x f)
+    (λ e. absurd (omega (arith, ap one e)))
+    (λ e. join-apart n x f ys e)
+glue-apart n m (x ∷ z ∷ zs) f ys lo q h s =
+    join-next n x z (glue n zs (f ∷ ys)) (joinable-first n x z (h .0 .some) (h .1 .0 .apart))
+    ∙ ap (λ (r : List Extent). x ∷ r) (glue-apart n m (z ∷ zs) f ys _ _ (h .1) (omega arith))
+
+glue-joined : (n m : ℕ) (xs : List Extent) (f : Extent) (ys : List Extent) (lo q : ℕ) → Rows n lo q m xs → m ≤ f .logical → leftJoin n f xs ≡ 1
+    → glue n xs (f ∷ ys) ≡ lengthened (length xs) (f .count) xs ++ ys
+unfolding glue tally lengthened
+glue-joined n m [] f ys lo q h b s = absurd (omega arith)
+glue-joined n m (x ∷ []) f ys lo q h b s =
+    cases (joinable n x f)
+    (λ e. join-joined n x f ys e)
+    (λ e. absurd (omega (arith, ap one e)))
+glue-joined n m (x ∷ z ∷ zs) f ys lo q h b s =
+    let g = rows-le n m zs _ _ (h .1 .1) in
+    join-next n x z (glue n zs (f ∷ ys)) (joinable-first n x z (h .0 .some) (h .1 .0 .apart))
+    ∙ ap (λ (r : List Extent). x ∷ r) (glue-joined n m (z ∷ zs) f ys _ _ (h .1) b (omega (arith, ap one (not-next n x f (omega arith)))))
+
+pub lengthened-length : (i c : ℕ) (es : List Extent) → length (lengthened i c es) ≡ length es
+unfolding lengthened
+lengthened-length zero c es = refl
+lengthened-length (suc i) c es = length-set es i (longer c (getD es i blank))
+
+lengthened-append : (i c : ℕ) (xs ys : List Extent) → i ≤ length xs → lengthened i c (xs ++ ys) ≡ lengthened i c xs ++ ys
+unfolding lengthened
+lengthened-append zero c xs ys h = refl
+lengthened-append (suc i) c xs ys h =
+    ap (λ (x : Extent). set (xs ++ ys) i (longer c x)) (List·getD-append xs ys blank i (omega arith))
+    ∙ set-append-left xs ys i (longer c (getD xs i blank)) (omega arith)
+
+spliced-seam : (i : ℕ) (new xs ys : List Extent) → length xs ≡ i → spliced i new (xs ++ ys) ≡ xs ++ (new ++ ys)
+unfolding spliced
+spliced-seam i new xs ys h = ap₂ (λ (a b : List Extent). a ++ (new ++ b)) (take-at xs ys i h) (drop-at xs ys i h)
+
+-- new extents f, fs for the lines from a up to b, under the hypotheses of `place-length`: no part of an extent that the cut clipped is
+-- joinable with them
+module _ (n hi a b : ℕ) (f : Extent) (fs es : List Extent) (e : b ≤ hi) (w : Rows n a none b (f ∷ fs)) (h : Rows n 0 none hi es)
+    (at : f .logical ≡ a) (left : lookup es a ≡ f .physical → f .physical % n ≡ 0)
+    (right : lookup es b ≡ tip none (f ∷ fs) → tip none (f ∷ fs) % n ≡ 0) where
+  low : Rows n 0 none a (below a es)
+  low = below-rows n hi a es 0 none (omega arith) h
+
+  chained : place n a b (f ∷ fs) es ≡ glue n (below a es) (f ∷ fs ++ from b es)
+  unfolding place
+  chained = ap (glue n (below a es)) (no-right n hi a b f fs es e w h at left right)
+
+  joins : leftJoin n f (below a es) ≡ leftJoin n f es
+  joins = below-joins n hi a f es 0 none h at left
+
+  pub place-put : (i : ℕ) (joined : Bool) → i ≡ startsBefore a es → one joined ≡ leftJoin n f es → place n a b (f ∷ fs) es ≡ putIn i joined (f ∷ fs) (cut a b es)
+  unfolding putIn cut
+  place-put i true s j =
+      let size : length (below a es) ≡ i = below-length n hi a es 0 none h ∙ sym s in
+      chained ∙ glue-joined n a (below a es) f (fs ++ from b es) 0 none low (omega arith) (joins ∙ sym j)
+      ∙ ap (λ (k : ℕ). lengthened k (f .count) (below a es) ++ (fs ++ from b es)) size
+      ∙ sym (ap (spliced i fs) (lengthened-append i (f .count) (below a es) (from b es) (omega arith))
+      ∙ spliced-seam i fs (lengthened i (f .count) (below a es)) (from b es) (lengthened-length i (f .count) (below a es) ∙ size))
+  place-put i false s j =
+      chained ∙ glue-apart n a (below a es) f (fs ++ from b es) 0 none low (joins ∙ sym j)
+      ∙ sym (spliced-seam i (f ∷ fs) (below a es) (from b es) (below-length n hi a es 0 none h ∙ sym s))
+
+-- ---- in place
+
+-- k new pieces can be put in at slot `before`
+pub record Puttable (ws : List ℕ) (u before : ℕ) (joined : Bool) (new : List ℕ) (k : ℕ) : Type 0 where
+  pub held : Holds ws u
+  pub within : before ≤ u
+  pub some : 1 ≤ k
+  pub fits : 3 * k ≤ length new
+  pub room : 3 * (u + k) ≤ length ws + 3 * one joined
+  pub joins : joined ≡ true → (1 ≤ before) × (slot ws (before - 1) .count + slot new 0 .count < 2 ^ 32)
+
+-- one piece more, at its slot
+splice-one : (i d : ℕ) (x : Extent) (new xs ys : List Extent) → i ≤ length ys → length new ≡ d → xs ≡ spliced i new ys
+    → take (i + d) xs ++ x ∷ drop (i + d) xs ≡ spliced i (new ++ x ∷ []) ys
+unfolding spliced
+splice-one i d x new xs ys h s e =
+    let front = take i ys ++ new in
+    let size : length front ≡ i + d = omega (arith, length-append (take i ys) new, length-take-le i ys h) in
+    let at : xs ≡ front ++ drop i ys = e ∙ sym (append-assoc (take i ys) new (drop i ys)) in
+    ap (λ (zs : List Extent). take (i + d) zs ++ x ∷ drop (i + d) zs) at
+    ∙ ap₂ (λ (a b : List Extent). a ++ x ∷ b) (take-at front (drop i ys) (i + d) size) (drop-at front (drop i ys) (i + d) size)
+    ∙ append-assoc (take i ys) new (x ∷ drop i ys)
+    ∙ ap (λ (zs : List Extent). take i ys ++ zs) (sym (append-assoc new (x ∷ []) (drop i ys)))
+
+pub spliced-none : (i : ℕ) (es : List Extent) → es ≡ spliced i [] es
+unfolding spliced
+spliced-none i es = sym (take-append-drop i es)
+
+pub spliced-length : (i : ℕ) (new es : List Extent) → i ≤ length es → length (spliced i new es) ≡ length es + length new
+unfolding spliced
+spliced-length i new es h =
+    omega (arith, length-append (take i es) (new ++ drop i es), length-append new (drop i es), length-take-le i es h, length-drop i es)
+
+-- a loop that has put d of the pieces from s on in
+module _ (ws : List ℕ) (u i : ℕ) (new : List ℕ) (s : ℕ) (h : Holds ws u) (b : i ≤ u) where
+  abbrev es : List Extent
+  es = slots ws 0 u
+
+  size : length es ≡ u
+  size = slots-length ws 0 u
+
+  pub splice-start : ws ≡ padded (length ws) (spliced i (slots new s 0) es)
+  unfolding slots
+  splice-start = h .is ∙ ap (padded (length ws)) (spliced-none i es)
+
+  module _ (d : ℕ) (f : 3 * (u + d) ≤ length ws) (mid : List ℕ) (g : mid ≡ padded (length ws) (spliced i (slots new s d) es)) where
+    count : length (spliced i (slots new s d) es) ≡ u + d
+    count = spliced-length i (slots new s d) es (omega (arith, size)) ∙ omega (arith, size, slots-length new s d)
+
+    pub splice-holds : Holds mid (u + d)
+    splice-holds = became-holds (length ws) (spliced i (slots new s d) es) mid (u + d) g count f
+
+    pub splice-more : (ws′ : List ℕ)
+        → ws′ ≡ padded (length mid) (take (i + d) (slots mid 0 (u + d)) ++ slot new (s + d) ∷ drop (i + d) (slots mid 0 (u + d)))
+        → ws′ ≡ padded (length ws) (spliced i (slots new s (d + 1)) es)
+    splice-more ws′ e =
+        e ∙ ap₂ padded (became-length (length ws) (spliced i (slots new s d) es) mid (u + d) g count f)
+        (splice-one i d (slot new (s + d)) (slots new s d) (slots mid 0 (u + d)) es (omega (arith, size)) (slots-length new s d)
+        (became-slots (length ws) (spliced i (slots new s d) es) mid (u + d) g count f)
+        ∙ ap (λ (xs : List Extent). spliced i xs es) (sym (slots-more new s d (s + d) refl)))
+
+    pub splice-end : (k r : ℕ) → d ≡ k → r ≡ u + k → Becomes (length ws) (spliced i (slots new s k) es) mid r
+    splice-end k r p q = record { is = g ∙ ap (λ (j : ℕ). padded (length ws) (spliced i (slots new s j) es)) p; used = omega (arith, count, ap (λ (j : ℕ). length (spliced i (slots new s j) es)) p) }
+
+-- the extent before slot i with c pages more
+pub lengthened-set : (ws : List ℕ) (u i c : ℕ) (ws′ : List ℕ) → 1 ≤ i → i ≤ u
+    → ws′ ≡ padded (length ws) (set (slots ws 0 u) (i - 1) (extent (slot ws (i - 1) .logical) (slot ws (i - 1) .physical) (slot ws (i - 1) .count + c)))
+    → ws′ ≡ padded (length ws) (lengthened i c (slots ws 0 u))
+unfolding lengthened
+lengthened-set ws u i c ws′ s t g =
+    let e : i ≡ suc (i - 1) = omega arith in
+    rw e (g ∙ ap (λ (x : Extent). padded (length ws) (set (slots ws 0 u) (i - 1) (longer c x))) (sym (at-slot ws u (i - 1) (omega arith))))
+
+first-piece : (new : List ℕ) (k : ℕ) → 1 ≤ k → slots new 0 k ≡ slot new 0 ∷ slots new 1 (k - 1)
+unfolding slots
+first-piece new k h = let e : k ≡ suc (k - 1) = omega arith in ap (slots new 0) e
+
+module _ (ws : List ℕ) (u before : ℕ) (joined : Bool) (new : List ℕ) (k : ℕ) (p : Puttable ws u before joined new k) where
+  abbrev old : List Extent
+  old = slots ws 0 u
+
+  -- no piece is joined
+  module _ (j : joined ≡ false) where
+    pub apart-ready : Holds ws u × (before ≤ u) × (0 ≤ k) × (3 * k ≤ length new) × (3 * (u + (k - 0)) ≤ length ws)
+    apart-ready = (p .held, p .within, omega arith, p .fits, omega (arith, p .room, ap one j))
+
+    pub apart-done : (ws′ : List ℕ) (r : ℕ) → Becomes (length ws) (spliced before (slots new 0 (k - 0)) old) ws′ r
+        → Becomes (length ws) (putIn before joined (slots new 0 k) old) ws′ r
+    unfolding putIn
+    apart-done ws′ r h = let e : k - 0 ≡ k = omega arith in rw (j, ← e) h
+
+  -- the first is
+  module _ (j : joined ≡ true) where
+    pub joined-ready : Holds ws u × (1 ≤ before) × (before ≤ u) × (slot ws (before - 1) .count + slot new 0 .count < 2 ^ 32)
+    joined-ready = let q = p .joins j in (p .held, q .0, p .within, q .1)
+
+    module _ (mid : List ℕ) (g : mid ≡ padded (length ws) (lengthened before (slot new 0 .count) old)) where
+      as-many : length (lengthened before (slot new 0 .count) old) ≡ u
+      as-many = lengthened-length before (slot new 0 .count) old ∙ slots-length ws 0 u
+
+      words : length mid ≡ length ws
+      words = became-length (length ws) (lengthened before (slot new 0 .count) old) mid u g as-many (p .held .fits)
+
+      pub joined-next : Holds mid u × (before ≤ u) × (1 ≤ k) × (3 * k ≤ length new) × (3 * (u + (k - 1)) ≤ length mid)
+      joined-next = (
+        became-holds (length ws) (lengthened before (slot new 0 .count) old) mid u g as-many (p .held .fits),
+        p .within,
+        p .some,
+        p .fits,
+        omega (arith, p .some, p .room, ap one j, words),
+      )
+
+      pub joined-done : (ws′ : List ℕ) (r : ℕ) → Becomes (length mid) (spliced before (slots new 1 (k - 1)) (slots mid 0 u)) ws′ r
+          → Becomes (length ws) (putIn before joined (slots new 0 k) old) ws′ r
+      unfolding putIn
+      joined-done ws′ r h =
+          let e : spliced before (slots new 1 (k - 1)) (slots mid 0 u) ≡ putIn before joined (slots new 0 k) old =
+          ap (spliced before (slots new 1 (k - 1))) (became-slots (length ws) (lengthened before (slot new 0 .count) old) mid u g as-many (p .held .fits))
+          ∙ sym (ap₂ (λ (b : Bool) (xs : List Extent). putIn before b xs old) j (first-piece new k (p .some))) in
+          subst₂ (λ (m : ℕ) (xs : List Extent). Becomes m xs ws′ r) words e h

@@ -1,0 +1,58 @@
+// A write's pieces put into the extents, in place.
+ghost use mathlib.Core.Path.{_≡_};
+ghost use Prim.Native.Nat.{_+_, _-_, _*_, _<_, _≤_, _^_};
+ghost use lib.ListN.{length};
+ghost use Rattle.rules.specs.Extents.{slot, slots};
+ghost use Rattle.map.specs.Padded.{padded, Holds, Becomes};
+ghost use Rattle.putting.specs.Pieces.{spliced, lengthened, putIn, Puttable};
+
+// The extent before slot i gets c pages more.
+fn lengthen(ext: &mut [u32], used: usize, i: usize, c: u32)
+    requires { ⌜ Holds (now ext) used × (1 ≤ i) × (i ≤ used) × (slot (now ext) (i - 1) .count + c < 2 ^ 32) ⌝ }
+    ensures { λ _. ⌜ now (ext .exit) ≡ padded (length (now (ext .entry))) (lengthened i c (slots (now (ext .entry)) 0 used)) ⌝ }
+{
+    let j = i - 1;
+    let at = 3 * j;
+    let l = ext[at];
+    let p = ext[at + 1];
+    let d = ext[at + 2];
+    map::put(ext, used, j, l, p, d + c);
+}
+
+// The pieces from s up to k come in at slot i. The slots then in use are returned.
+fn splice(ext: &mut [u32], used: usize, i: usize, new: &[u32], s: usize, k: usize) -> usize
+    requires { ⌜ Holds (now ext) used × (i ≤ used) × (s ≤ k) × (3 * k ≤ length (now new)) × (3 * (used + (k - s)) ≤ length (now ext)) ⌝ }
+    ensures { λ r. ⌜ Becomes (length (now (ext .entry))) (spliced i (slots (now (new .entry)) s (k - s)) (slots (now (ext .entry)) 0 used)) (now (ext .exit)) r ⌝ }
+{
+    let mut d: usize = 0;
+    while d < k - s {
+        let at = 3 * (s + d);
+        let l = new[at];
+        let p = new[at + 1];
+        let c = new[at + 2];
+        map::insert(ext, used + d, i + d, l, p, c);
+        d += 1;
+    }
+    used + d
+}
+
+// k new pieces come in at slot `before`, where the first is `joined` to the extent in front of it or not. The slots then in use are
+// returned.
+pub fn put_pieces(
+    ext: &mut [u32],
+    used: usize,
+    before: usize,
+    joined: bool,
+    new: &[u32],
+    k: usize,
+) -> usize
+    requires { ⌜ Puttable (now ext) used before joined (now new) k ⌝ }
+    ensures { λ r. ⌜ Becomes (length (now (ext .entry))) (putIn before joined (slots (now (new .entry)) 0 k) (slots (now (ext .entry)) 0 used)) (now (ext .exit)) r ⌝ }
+{
+    if joined {
+        let c = new[2];
+        lengthen(ext, used, before, c);
+        return splice(ext, used, before, new, 1, k);
+    }
+    splice(ext, used, before, new, 0, k)
+}

@@ -1,0 +1,3 @@
+pub mod Bare
+pub mod Blocks
+pub mod Rest

@@ -1,0 +1,146 @@
+-- Where a write's new extents meet the old ones, and how many extents there are afterwards.
+use Prim.Native.Nat.{ℕ, zero, suc, _+_, _-_, _*_, _≤_, _<_}
+use mathlib.Core.Bool.{Bool, true, false}
+use mathlib.Core.Path.{_≡_, refl, sym, ap, _∙_}
+use mathlib.Core.List.{List}
+use native.Mathlib.Omega.{arith}
+use lib.Dec.{ltb}
+use lib.ListN.{length, getD}
+use Rattle.rules.specs.Counting.{one}
+use Rattle.rules.specs.Extents.{none, extent, end}
+use Rattle.rules.specs.Blocks.{stride}
+use Rattle.rules.specs.Lent.{Lent, inUse}
+use Rattle.rules.specs.Device.{Device, blocks, lines, fill, free, extents, deviceOf}
+use Rattle.rules.specs.Placement.{placesAt, target, targets, puts, places, pieces}
+use Rattle.rules.specs.declared.Extent.{Extent}
+use Rattle.laws.specs.Sane.{Shaped, Sane}
+use Rattle.laws.specs.Shapes.{lines-pages, pages-high, pages-fit, some-pages}
+use Rattle.laws.specs.Counts.{startsBefore, endsAfter, leftJoin, tally-le}
+use Rattle.laws.specs.Growth.{write-grows}
+use Rattle.laws.specs.Spread.{firstPage, spread}
+use Rattle.laws.specs.States.{device-lines, device-blocks, extents-in-use, sane-good}
+use Rattle.laws.specs.Runs.{runs-length}
+use Rattle.laws.specs.Placed.{length-placed}
+use Rattle.map.specs.Around.{joinsBefore, joins-before}
+use Rattle.targets.specs.Bare.{fillsOf}
+use Rattle.targets.specs.Bare.{bare-device, pieces-on, first-on}
+use Rattle.verdicts.specs.Trimming.{few-around}
+use Rattle.writable.specs.declared.Meeting.{Meeting}
+
+-- a write that is in range and finds its pages
+pub record Writable (l n : ℕ) (s : Lent) : Type 0 where
+  pub shape : Shaped s
+  pub sane : Sane s
+  pub some : 0 < n
+  pub block : n ≤ s .head .pages
+  pub inside : l + n ≤ s .head .logical
+  pub enough : n ≤ free (deviceOf s)
+
+-- the first page that it takes
+abbrev pub firstOf : Device → ℕ
+firstOf d = target d * d .pages + fill d (target d)
+
+abbrev pub piecesOf : ℕ → ℕ → Lent → ℕ
+piecesOf l n s = length (pieces l n (deviceOf s))
+
+abbrev pub nodesOf : ℕ → ℕ → Lent → ℕ
+nodesOf l n s = length (extents (puts l n (deviceOf s)))
+
+pub record Meets (l n : ℕ) (s : Lent) (m : Meeting) : Type 0 where
+  pub before : m .before ≡ startsBefore l (inUse s)
+  pub after : m .after ≡ endsAfter (l + n) (inUse s)
+  pub joined : one (m .joined) ≡ leftJoin (s .head .pages) (extent l (firstOf (deviceOf s)) 1) (inUse s)
+
+place-first : (l n : ℕ) (d : Device) → 0 < n → getD (places l n d) 0 none ≡ firstOf d
+unfolding places placesAt targets
+place-first l zero d h = absurd (omega arith)
+place-first l (suc n) d h = refl
+
+module _ (l n : ℕ) (s : Lent) (z : Writable l n s) where
+  abbrev d : Device
+  d = deviceOf s
+
+  pub write-line : l + n ≤ 262144
+  write-line = omega (arith, z .inside, lines-pages (z .shape .sizes), pages-high (z .shape .sizes))
+
+  pub write-slots : 3 * s .head .used ≤ length (s .extents)
+  write-slots = omega (arith, z .shape .extents, z .sane .few)
+
+  pub write-before : (b : ℕ) → b ≡ startsBefore l (inUse s) → 3 * b ≤ length (s .extents)
+  write-before b e =
+      omega (
+        arith,
+        e,
+        tally-le (λ x. ltb (x .logical) l) (inUse s),
+        Rattle.laws.specs.Slots.slots-length (s .extents) 0 (s .head .used),
+        write-slots,
+      )
+
+  pages-in : length (deviceOf s .fills) * deviceOf s .pages ≤ none
+  pages-in = sane-good s (z .shape) (z .sane) .sound .words
+
+  -- the code's pieces and first page are the rules'
+  pub pieces-are : (k : ℕ) → k ≡ length (spread (s .head .pages) (s .head .reserve) (fillsOf (s .head .blocks) (s .blocks)) 0 l n) → k ≡ piecesOf l n s
+  pieces-are k e =
+      e ∙ ap length (pieces-on (s .head .blocks) (s .head .pages) (s .head .reserve) (s .blocks) (s .spare) (deviceOf s) (bare-device s) pages-in l n (z .enough))
+
+  pub first-is : (p : ℕ) → p ≡ firstPage (spread (s .head .pages) (s .head .reserve) (fillsOf (s .head .blocks) (s .blocks)) 0 l n) → p ≡ firstOf (deviceOf s)
+  first-is p e =
+      e ∙ first-on (s .head .blocks) (s .head .pages) (s .head .reserve) (s .blocks) (s .spare) (deviceOf s) (bare-device s) pages-in l n (z .enough) (z .some)
+      ∙ place-first l n (deviceOf s) (z .some)
+
+  pub joined-is : (p b : ℕ) (t : Bool) → p ≡ firstOf (deviceOf s) → b ≡ startsBefore l (inUse s) → t ≡ joinsBefore (s .head .pages) (extent l p 1) b (s .extents)
+      → one t ≡ leftJoin (s .head .pages) (extent l (firstOf (deviceOf s)) 1) (inUse s)
+  joined-is p b t e f g =
+      ap one (g ∙ ap (λ (x : ℕ). joinsBefore (s .head .pages) (extent l x 1) b (s .extents)) e)
+      ∙ joins-before (s .head .pages) (s .head .logical) (extent l (firstOf (deviceOf s)) 1) (s .extents) (s .head .used) b (z .sane .rows) f
+
+  pub few-pieces : piecesOf l n s ≤ 256
+  unfolding pieces
+  few-pieces =
+      omega (
+        arith,
+        runs-length (deviceOf s .pages) l (places l n (deviceOf s)),
+        length-placed l n (deviceOf s),
+        z .block,
+        z .shape .sizes .n-high,
+      )
+
+  pages-same : deviceOf s .pages ≡ s .head .pages
+  unfolding deviceOf
+  pages-same = refl
+
+  -- before + after + pieces, less one for a join
+  pub grows : (m : Meeting) → Meets l n s m → nodesOf l n s + one (m .joined) ≡ m .before + m .after + piecesOf l n s
+  grows m e =
+      let g = write-grows l n (deviceOf s) (sane-good s (z .shape) (z .sane) .sound) (z .some) (z .enough) (omega (arith, z .inside, device-lines s)) in
+      let es = extents-in-use s (z .shape) (z .sane) in
+      let j : leftJoin (deviceOf s .pages) (extent l (firstOf (deviceOf s)) 1) (extents (deviceOf s)) ≡ leftJoin (s .head .pages) (extent l (firstOf (deviceOf s)) 1) (inUse s) =
+      ap (λ (x : ℕ). leftJoin x (extent l (firstOf (deviceOf s)) 1) (extents (deviceOf s))) pages-same ∙ ap (leftJoin (s .head .pages) (extent l (firstOf (deviceOf s)) 1)) es in
+      omega (
+        arith,
+        g,
+        j,
+        ap (startsBefore l) es,
+        ap (endsAfter (l + n)) es,
+        e .before,
+        e .after,
+        e .joined,
+      )
+
+  pub few-meet : (m : Meeting) → Meets l n s m → m .before + m .after ≤ 16384
+  few-meet m e = omega (arith, e .before, e .after, few-around s (z .shape) (z .sane) l (l + n))
+
+  one-true : (t : Bool) → t ≡ true → one t ≡ 1
+  one-true true e = refl
+  one-true false e = absurd (mathlib.Core.Bool.false≢true e)
+
+  one-false : (t : Bool) → t ≡ false → one t ≡ 0
+  one-false true e = absurd (mathlib.Core.Bool.true≢false e)
+  one-false false e = refl
+
+  pub nodes-joined : (m : Meeting) (k : ℕ) → Meets l n s m → k ≡ piecesOf l n s → m .joined ≡ true → (1 ≤ m .before + m .after + k) × (m .before + m .after + k - 1 ≡ nodesOf l n s)
+  nodes-joined m k e f t = (omega (arith, grows m e, one-true (m .joined) t), omega (arith, grows m e, one-true (m .joined) t))
+
+  pub nodes-apart : (m : Meeting) (k : ℕ) → Meets l n s m → k ≡ piecesOf l n s → m .joined ≡ false → m .before + m .after + k ≡ nodesOf l n s
+  nodes-apart m k e f t = omega (arith, grows m e, one-false (m .joined) t)
