@@ -79,7 +79,7 @@ pub record Same (A : Type 0) (a b : A) (x y : List (List ℕ)) : Type 0 where
   pub words : x ≡ y
 
 module _ (rule : Outcome Lent) (x y z o x′ y′ z′ o′ : List ℕ) where
-  same : (s t : Said) → outcome s x y z o ≡ rule → outcome t x′ y′ z′ o′ ≡ rule → (s ≡ t) × (x ∷ y ∷ z ∷ o ∷ [] ≡ x′ ∷ y′ ∷ z′ ∷ o′ ∷ [])
+  pub same : (s t : Said) → outcome s x y z o ≡ rule → outcome t x′ y′ z′ o′ ≡ rule → (s ≡ t) × (x ∷ y ∷ z ∷ o ∷ [] ≡ x′ ∷ y′ ∷ z′ ∷ o′ ∷ [])
   unfolding said-of
   same s t e f =
       let g : outcome s x y z o ≡ outcome t x′ y′ z′ o′ = e ∙ sym f in
