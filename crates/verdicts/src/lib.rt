@@ -1,4 +1,5 @@
-// What each call is refused for, the first refusal that applies in the paper's order, decided over shared slices before anything is touched.
+// What a call is refused for, the first refusal that applies in the paper's order, decided over shared slices before anything is touched. A write's
+// verdict stands in `writable`, a reclaim's in `reclaimable`.
 use rules::Head;
 use rules::Refusal;
 ghost use mathlib.Core.Path.{_≡_};
