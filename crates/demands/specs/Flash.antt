@@ -16,11 +16,11 @@ use Rattle.rules.specs.Device.{Device, blocks, lines, at, fill, valid}
 use Rattle.rules.specs.Placement.{putAt, putsAt, placesAt}
 use Rattle.rules.specs.Number.{withTable, trimmed}
 use Rattle.rules.specs.Reclaim.{sources, moved, reclaimedAt}
-use Rattle.laws.specs.Cells.{block-le, far, copies, copies-copied, Blanks, blanks, length-moved}
+use Rattle.laws.specs.Cells.{block-le, far, copies, copies-copied, Blanks, blanks}
 use Rattle.laws.specs.Device.{Sound, Blank, page-lt}
 use Rattle.laws.specs.Placed.{Open, Opens, put-pages, put-blocks, put-at, put-at-other, stored-in, stored-kept, stored-blank, put-one}
 use Rattle.laws.specs.Lines.{trimmed-in, trimmed-other}
-use Rattle.laws.specs.Reclaimed.{nth, length-sources, few-sources, source, source-page, re-pages, re-blocks, re-hole, re-some, carried-kept, carried-blank}
+use Rattle.laws.specs.Reclaimed.{nth, length-sources, few-sources, source, source-page, re-pages, re-blocks, re-hole, re-some, length-moved, carried-kept, carried-blank}
 
 pub data Cell : Type 0 where
   erased : Cell
@@ -135,7 +135,7 @@ unfoldable pub vacate : ℕ → Device → List Cell → List Cell
 vacate v d f = sets (copies erased (d .reserve * d .pages) (sources v d) f) (v * d .pages) (replicate (d .pages) erased)
 
 module _ (d : Device) (s : Sound d) (f : List Cell) (c : Clean d f) (v : ℕ) (a : v < blocks d) (e : v ≡ d .reserve → ⊥) where
-  vacate-moved : vacate v d f ≡ moved erased (d .pages) (d .reserve) v (sources v d) f
+  vacate-moved : vacate v d f ≡ moved erased v d f
   unfolding vacate moved
   vacate-moved =
       ap (λ (g : List Cell). sets g (v * d .pages) (replicate (d .pages) erased)) (copies-copied erased (sources v d) (d .reserve * d .pages) f
@@ -153,7 +153,7 @@ module _ (d : Device) (s : Sound d) (f : List Cell) (c : Clean d f) (v : ℕ) (a
 
   pub vacate-clean : Clean (reclaimedAt v d) (vacate v d f)
   vacate-clean = rw vacate-moved (record {
-    whole = rw (re-blocks d s v a e, re-pages d s v a e) (length-moved erased (d .pages) (d .reserve) v (sources v d) f ∙ c .whole);
+    whole = rw (re-blocks d s v a e, re-pages d s v a e) (length-moved d s v a e erased f (c .whole) ∙ c .whole);
     blank = carried-blank d s v a e erased f (c .whole) (c .blank);
   })
 
@@ -163,7 +163,7 @@ module _ (d : Device) (s : Sound d) (f : List Cell) (c : Clean d f) (v : ℕ) (a
   vacate-keeps l =
       let p = at (reclaimedAt v d) l in
       rw vacate-moved (by-cases (ℕ-discrete (at d l) none)
-      (λ g. see-hole (moved erased (d .pages) (d .reserve) v (sources v d) f) p (re-hole d s v a e l g) ∙ sym (see-hole f (at d l) g))
-      (λ m. see-cell (moved erased (d .pages) (d .reserve) v (sources v d) f) p (re-some d s v a e l m)
+      (λ g. see-hole (moved erased v d f) p (re-hole d s v a e l g) ∙ sym (see-hole f (at d l) g))
+      (λ m. see-cell (moved erased v d f) p (re-some d s v a e l m)
       ∙ ap cell (carried-kept d s v a e erased f (c .whole) l m)
       ∙ sym (see-cell f (at d l) m)))

@@ -10,7 +10,7 @@ use native.Mathlib.Nat.{suc-mul, mul-le-mul-right}
 use lib.ListN.{length, getD, set, replicate, length-set, length-map, length-replicate, getD-replicate}
 use lib.Seq.{sets, length-sets, getD-set-same, getD-set-other}
 use Rattle.rules.specs.Counting.{one, count, tabulate}
-use Rattle.rules.specs.Reclaim.{copied, moved}
+use Rattle.rules.specs.Reclaim.{copied}
 use Rattle.laws.specs.Sums.{count-same, count-none, count-change, count-first}
 
 pub block-le : (n b c : ℕ) → b < c → b * n + n ≤ c * n
@@ -173,39 +173,43 @@ module _ {A : Type 0} (z : A) where
   unfolding copied
   length-copied a ps xs = length-sets xs a (map (λ p. getD xs p z) ps)
 
-  pub length-moved : (n r v : ℕ) (ps : List ℕ) (xs : List A) → length (moved z n r v ps xs) ≡ length xs
-  unfolding moved
-  length-moved n r v ps xs = length-sets (copied z (r * n) ps xs) (v * n) (replicate n z) ∙ length-copied (r * n) ps xs
+  -- then block v emptied; n pages a block
+  unfoldable pub emptied : ℕ → ℕ → ℕ → List ℕ → List A → List A
+  emptied n r v ps xs = sets (copied z (r * n) ps xs) (v * n) (replicate n z)
+
+  pub length-emptied : (n r v : ℕ) (ps : List ℕ) (xs : List A) → length (emptied n r v ps xs) ≡ length xs
+  unfolding emptied
+  length-emptied n r v ps xs = length-sets (copied z (r * n) ps xs) (v * n) (replicate n z) ∙ length-copied (r * n) ps xs
 
   module _ (n r v : ℕ) (ps : List ℕ) (xs : List A) (m : length ps ≤ n) (f : r * n + n ≤ length xs) (g : v * n + n ≤ length xs) (e : v ≡ r → ⊥) where
-    wiped-other : (c o : ℕ) → (c ≡ v → ⊥) → o < n → getD (moved z n r v ps xs) (c * n + o) z ≡ getD (copied z (r * n) ps xs) (c * n + o) z
-    unfolding moved
+    wiped-other : (c o : ℕ) → (c ≡ v → ⊥) → o < n → getD (emptied n r v ps xs) (c * n + o) z ≡ getD (copied z (r * n) ps xs) (c * n + o) z
+    unfolding emptied
     wiped-other c o u h =
         sets-other (replicate n z) (copied z (r * n) ps xs) (v * n) (c * n + o) (λ p q. far n c v o u h p (omega (arith, length-replicate n z)))
 
-    pub moved-in : (i : ℕ) (y : ℕ) → i < length ps → getD (moved z n r v ps xs) (r * n + i) z ≡ getD xs (getD ps i y) z
+    pub emptied-in : (i : ℕ) (y : ℕ) → i < length ps → getD (emptied n r v ps xs) (r * n + i) z ≡ getD xs (getD ps i y) z
     unfolding copied
-    moved-in i y h =
+    emptied-in i y h =
         let w = length-map ps (λ p. getD xs p z) in
         wiped-other r i (λ q. e (sym q)) (omega arith)
         ∙ sets-in (map (λ p. getD xs p z) ps) xs (r * n) (r * n + i) i (omega arith) (omega arith) refl
         ∙ map-at (λ p. getD xs p z) ps i y h
 
-    pub moved-rest : (i : ℕ) → length ps ≤ i → i < n → getD (moved z n r v ps xs) (r * n + i) z ≡ getD xs (r * n + i) z
+    pub emptied-rest : (i : ℕ) → length ps ≤ i → i < n → getD (emptied n r v ps xs) (r * n + i) z ≡ getD xs (r * n + i) z
     unfolding copied
-    moved-rest i h k =
+    emptied-rest i h k =
         wiped-other r i (λ q. e (sym q)) k
         ∙ sets-other (map (λ p. getD xs p z) ps) xs (r * n) (r * n + i) (λ p q. omega (arith, length-map ps (λ p. getD xs p z)))
 
-    pub moved-gone : (o : ℕ) → o < n → getD (moved z n r v ps xs) (v * n + o) z ≡ z
-    unfolding moved
-    moved-gone o h =
+    pub emptied-gone : (o : ℕ) → o < n → getD (emptied n r v ps xs) (v * n + o) z ≡ z
+    unfolding emptied
+    emptied-gone o h =
         let w = length-replicate n z in
         sets-in (replicate n z) (copied z (r * n) ps xs) (v * n) (v * n + o) o (omega arith) (omega (arith, length-copied (r * n) ps xs)) refl
         ∙ getD-replicate n o z z h
 
-    pub moved-other : (c o : ℕ) → (c ≡ v → ⊥) → (c ≡ r → ⊥) → o < n → getD (moved z n r v ps xs) (c * n + o) z ≡ getD xs (c * n + o) z
+    pub emptied-other : (c o : ℕ) → (c ≡ v → ⊥) → (c ≡ r → ⊥) → o < n → getD (emptied n r v ps xs) (c * n + o) z ≡ getD xs (c * n + o) z
     unfolding copied
-    moved-other c o u t h =
+    emptied-other c o u t h =
         wiped-other c o u h
         ∙ sets-other (map (λ p. getD xs p z) ps) xs (r * n) (c * n + o) (λ p q. far n c r o t h p (omega (arith, length-map ps (λ p. getD xs p z))))

@@ -1,6 +1,6 @@
 -- The extents of a device's map after each call, from those before it; and how many there are at most.
 use Prim.Native.Nat.{ℕ, suc, _+_, _/_, _%_, _≤_, _<_}
-use mathlib.Core.Path.{_≡_, sym, ap, _∙_}
+use mathlib.Core.Path.{_≡_, sym, ap, _∙_, subst, fun-ext}
 use mathlib.Core.List.{List, [], _∷_, map}
 use mathlib.Core.Logic.{by-cases}
 use native.Mathlib.Omega.{arith}
@@ -18,11 +18,11 @@ use Rattle.laws.specs.Runs.{join-length, runs-hole, runs-page, runs-rows
 use Rattle.laws.specs.Cut.{cut}
 use Rattle.laws.specs.Trim.{trim-cut}
 use Rattle.laws.specs.Write.{place, write-place}
-use Rattle.laws.specs.Norm.{norm, norm-length, move, move-runs, movesTo, movesTo-steadies}
+use Rattle.laws.specs.Norm.{norm, norm-length, move, Steadies, move-runs, goes-moves, movesTo-steadies}
 use Rattle.laws.specs.Device.{Sound, none-block}
 use Rattle.laws.specs.Placed.{Opens, puts-table, puts-pages, length-places, places-small}
 use Rattle.laws.specs.States.{table-lines}
-use Rattle.laws.specs.Reclaimed.{goes-other, within, victim-chosen}
+use Rattle.laws.specs.Reclaimed.{goes-hole, within, victim-chosen}
 
 -- a write: the pieces of the answer, put in between what lies below the range and what lies above it
 pub write-extents : (l : ℕ) (bs : List ℕ) (d : Device) → Sound d → Opens l bs d → l + length bs ≤ lines d
@@ -40,15 +40,16 @@ trim-extents k l n d s z h = trim-cut (d .pages) (s .some) l n (d .table) z h (t
 -- a reclaim: each extent moved whole, then joined
 pub reclaim-extents : (d : Device) → Sound d → (v : ℕ) → v < blocks d → (v ≡ d .reserve → ⊥)
     → norm (d .pages) (map (move (goes v (d .reserve) d)) (extents d)) ≡ extents (reclaimedAt v d)
-unfolding extents reclaimedAt goes movesTo
+unfolding extents reclaimedAt
 reclaim-extents d s v a e =
-    move-runs (d .pages) (s .some) (goes v (d .reserve) d) (goes-other v (d .reserve) d none (none-block d s v a)) (d .table) (table-lines d s)
+    move-runs (d .pages) (s .some) (goes v (d .reserve) d) (goes-hole v (d .reserve) d) (d .table) (table-lines d s)
+    (subst (λ (g : ℕ → ℕ). Steadies (d .pages) g (runs (d .pages) 0 (d .table))) (sym (fun-ext (goes-moves v (d .reserve) d (none-block d s v a))))
     (movesTo-steadies (d .pages) (s .some) (named d v) v (d .reserve) (lines d) (runs (d .pages) 0 (d .table)) 0 none
     (omega (arith, suc-mul (d .reserve) (d .pages), block-le (d .pages) (d .reserve) (blocks d) (s .kept), s .words))
     (runs-rows (d .pages) (s .some) (d .table) 0 (lines d) (table-lines d s) (omega arith))
     (λ l m q. let g = runs-lookup (d .pages) (s .some) (d .table) 0 l l (table-lines d s) (omega arith) in
     let w = within d s v a e l (sym (ap (λ (x : ℕ). x / d .pages) g) ∙ q) in
-    ap (named d v) (ap (λ (x : ℕ). x % d .pages) (g ∙ w .is) ∙ digits-mod v (omega (arith, w .below, s .full v a))) ∙ w .live))
+    ap (named d v) (ap (λ (x : ℕ). x % d .pages) (g ∙ w .is) ∙ digits-mod v (omega (arith, w .below, s .full v a))) ∙ w .live)))
 
 -- ---- how many
 

@@ -104,13 +104,10 @@ move-runs n z g eq t w s =
 
 -- ---- the move of a reclaim: the live pages of block v, in physical order, to block r
 
--- where page p goes; live says which offsets of v are live. This is `goes`, apart from the device
+-- where page p goes; live says which offsets of v are live
 unfoldable pub movesTo : ℕ → (ℕ → Bool) → ℕ → ℕ → ℕ → ℕ
 movesTo n live v r p = cond (eqb (p / n) v) (r * n + count (p % n) live) p
 
-pub goes-moves : (v r : ℕ) (d : Device) (p : ℕ) → goes v r d p ≡ movesTo (d .pages) (named d v) v r p
-unfolding goes movesTo
-goes-moves v r d p = refl
 
 count-along : (live : ℕ → Bool) (m i j : ℕ) → ((h : ℕ) → h < i → live (m + h) ≡ true) → j ≡ m + i → count j live ≡ count m live + i
 unfolding count
@@ -128,6 +125,14 @@ module _ (n : ℕ) (live : ℕ → Bool) (v r p : ℕ) where
   pub movesTo-else : (p / n ≡ v → ⊥) → movesTo n live v r p ≡ p
   unfolding movesTo
   movesTo-else eq = rw (ne-eqb (p / n) v eq)
+
+-- this is `goes`, apart from the device, where no block v holds what marks a hole
+pub goes-moves : (v r : ℕ) (d : Device) → (none / d .pages ≡ v → ⊥) → (p : ℕ) → goes v r d p ≡ movesTo (d .pages) (named d v) v r p
+unfolding goes movesTo
+goes-moves v r d h p =
+    by-cases (ℕ-discrete p none)
+    (λ g. rw (g, ne-eqb (none / d .pages) v h))
+    (λ m. rw (ne-eqb p none m))
 
 pub movesTo-steady : (n : ℕ) → 0 < n → (live : ℕ → Bool) (v r : ℕ) (e : Extent) (lo q : ℕ) → suc r * n ≤ none → Row n lo q e
     → ((i : ℕ) → i < e .count → (e .physical + i) / n ≡ v → live ((e .physical + i) % n) ≡ true) → Steady n (movesTo n live v r) e

@@ -18,7 +18,7 @@ use Rattle.rules.specs.Reclaim.{victim, sources, goes, moved, reclaimedAt, recl
 use Rattle.laws.specs.Bools.{same-test}
 use Rattle.laws.specs.Sums.{sum-change, sum-zero, count-same, count-none, count-rise, count-change}
 use Rattle.laws.specs.Picks.{most-lt, most-top, most-lowest, length-picks, picks-at, Picked, picked}
-use Rattle.laws.specs.Cells.{block-le, map-at, length-moved, moved-in, moved-rest, moved-gone, moved-other}
+use Rattle.laws.specs.Cells.{block-le, map-at, emptied, length-emptied, emptied-in, emptied-rest, emptied-gone, emptied-other}
 use Rattle.laws.specs.Device.{Home, Sound, Blank, same-block, page-lt, offset-lt, none-block, home-block}
 use Rattle.laws.specs.Live.{named-by, named-label, named-below, count-named}
 use Rattle.laws.specs.Balance.{valid-named, valid-stale, valid-le, stale-reserve, balance}
@@ -38,13 +38,20 @@ pub record Within (v : ℕ) (d : Device) (l : ℕ) : Type 0 where
   pub below : offset < fill d v
   pub live : named d v offset ≡ true
 
-pub goes-victim : (v r : ℕ) (d : Device) (o : ℕ) → o < d .pages → goes v r d (v * d .pages + o) ≡ r * d .pages + count o (named d v)
+pub goes-hole : (v r : ℕ) (d : Device) → goes v r d none ≡ none
 unfolding goes
-goes-victim v r d o h = rw (eq-eqb ((v * d .pages + o) / d .pages) v (digits-div v h), digits-mod v h)
+goes-hole v r d = refl
+
+pub goes-victim : (v r : ℕ) (d : Device) (o : ℕ) → o < d .pages → (v * d .pages + o ≡ none → ⊥) → goes v r d (v * d .pages + o) ≡ r * d .pages + count o (named d v)
+unfolding goes
+goes-victim v r d o h m = rw (ne-eqb (v * d .pages + o) none m, eq-eqb ((v * d .pages + o) / d .pages) v (digits-div v h), digits-mod v h)
 
 pub goes-other : (v r : ℕ) (d : Device) (p : ℕ) → (p / d .pages ≡ v → ⊥) → goes v r d p ≡ p
 unfolding goes
-goes-other v r d p e = rw (ne-eqb (p / d .pages) v e)
+goes-other v r d p e =
+    by-cases (ℕ-discrete p none)
+    (λ g. rw g)
+    (λ m. rw (ne-eqb p none m, ne-eqb (p / d .pages) v e))
 
 module _ (d : Device) (s : Sound d) (v : ℕ) (a : v < blocks d) (e : v ≡ d .reserve → ⊥) where
   -- ---- what it is made of
@@ -76,8 +83,8 @@ module _ (d : Device) (s : Sound d) (v : ℕ) (a : v < blocks d) (e : v ≡ d .r
   pub re-at : (l : ℕ) → at (reclaimedAt v d) l ≡ goes v (d .reserve) d (at d l)
   unfolding reclaimedAt
   re-at l =
-      let z : goes v (d .reserve) d none ≡ none = goes-other v (d .reserve) d none (none-block d s v a) in
-      subst (λ (x : ℕ). getD (map (goes v (d .reserve) d) (d .table)) l x ≡ goes v (d .reserve) d (at d l)) z (List·getD-map (goes v (d .reserve) d) (d .table) l none)
+      subst (λ (x : ℕ). getD (map (goes v (d .reserve) d) (d .table)) l x ≡ goes v (d .reserve) d (at d l)) (goes-hole v (d .reserve) d)
+      (List·getD-map (goes v (d .reserve) d) (d .table) l none)
 
   pub re-fill-victim : fill (reclaimedAt v d) v ≡ 0
   unfolding reclaimedAt
@@ -134,8 +141,11 @@ module _ (d : Device) (s : Sound d) (v : ℕ) (a : v < blocks d) (e : v ≡ d .r
         live = named-by d s v a (h .offset) l z is;
       }
 
+  goes-within : (o : ℕ) → o < d .pages → goes v (d .reserve) d (v * d .pages + o) ≡ d .reserve * d .pages + count o (named d v)
+  goes-within o h = goes-victim v (d .reserve) d o h (λ g. omega (arith, page-lt d s v o a h))
+
   pub re-at-within : (l : ℕ) (w : Within v d l) → at (reclaimedAt v d) l ≡ d .reserve * d .pages + count (w .offset) (named d v)
-  re-at-within l w = re-at l ∙ ap (goes v (d .reserve) d) (w .is) ∙ goes-victim v (d .reserve) d (w .offset) (omega (arith, w .below, s .full v a))
+  re-at-within l w = re-at l ∙ ap (goes v (d .reserve) d) (w .is) ∙ goes-within (w .offset) (omega (arith, w .below, s .full v a))
 
   pub re-at-other : (l : ℕ) → (at d l / d .pages ≡ v → ⊥) → at (reclaimedAt v d) l ≡ at d l
   re-at-other l q = re-at l ∙ goes-other v (d .reserve) d (at d l) q
@@ -164,22 +174,28 @@ module _ (d : Device) (s : Sound d) (v : ℕ) (a : v < blocks d) (e : v ≡ d .r
   three c x y z = by-cases (ℕ-discrete c v) x (λ f. by-cases (ℕ-discrete c (d .reserve)) y (z f))
 
   module _ {A : Type 0} (z : A) (xs : List A) (w : length xs ≡ blocks d * d .pages) where
+    pub length-moved : length (moved z v d xs) ≡ length xs
+    unfolding moved emptied
+    length-moved = length-emptied z (d .pages) (d .reserve) v (sources v d) xs
+
     fits : (c : ℕ) → c < blocks d → c * d .pages + d .pages ≤ length xs
     fits c h = omega (arith, block-le (d .pages) c (blocks d) h)
 
-    carried-in : (i : ℕ) → i < valid d v → getD (moved z (d .pages) (d .reserve) v (sources v d) xs) (d .reserve * d .pages + i) z ≡ getD xs (v * d .pages + nth v d i) z
+    carried-in : (i : ℕ) → i < valid d v → getD (moved z v d xs) (d .reserve * d .pages + i) z ≡ getD xs (v * d .pages + nth v d i) z
+    unfolding moved emptied
     carried-in i h =
-        moved-in z (d .pages) (d .reserve) v (sources v d) xs few-sources (fits (d .reserve) (s .kept)) (fits v a) e i 0 (omega (arith, length-sources))
+        emptied-in z (d .pages) (d .reserve) v (sources v d) xs few-sources (fits (d .reserve) (s .kept)) (fits v a) e i 0 (omega (arith, length-sources))
         ∙ ap (λ (p : ℕ). getD xs p z) (source-page i 0 h)
 
     carried-other : (c o : ℕ) → (c ≡ v → ⊥) → (c ≡ d .reserve → ⊥) → o < d .pages
-        → getD (moved z (d .pages) (d .reserve) v (sources v d) xs) (c * d .pages + o) z ≡ getD xs (c * d .pages + o) z
-    carried-other c o f g h = moved-other z (d .pages) (d .reserve) v (sources v d) xs few-sources (fits (d .reserve) (s .kept)) (fits v a) e c o f g h
+        → getD (moved z v d xs) (c * d .pages + o) z ≡ getD xs (c * d .pages + o) z
+    unfolding moved emptied
+    carried-other c o f g h = emptied-other z (d .pages) (d .reserve) v (sources v d) xs few-sources (fits (d .reserve) (s .kept)) (fits v a) e c o f g h
 
     -- the cell of a mapped page goes where the page goes
-    pub carried-kept : (l : ℕ) → (at d l ≡ none → ⊥) → getD (moved z (d .pages) (d .reserve) v (sources v d) xs) (at (reclaimedAt v d) l) z ≡ getD xs (at d l) z
+    pub carried-kept : (l : ℕ) → (at d l ≡ none → ⊥) → getD (moved z v d xs) (at (reclaimedAt v d) l) z ≡ getD xs (at d l) z
     carried-kept l m =
-        let ys = moved z (d .pages) (d .reserve) v (sources v d) xs in
+        let ys = moved z v d xs in
         by-cases (ℕ-discrete (at d l / d .pages) v)
         (λ q. let y = within l q in
         ap (λ (p : ℕ). getD ys p z) (re-at-within l y)
@@ -191,14 +207,15 @@ module _ (d : Device) (s : Sound d) (v : ℕ) (a : v < blocks d) (e : v ≡ d .r
         ∙ carried-other (h .block) (h .offset) (λ g. q (home-block d s l m ∙ g)) (λ g. omega (arith, h .below, s .empty, ap (fill d) g)) (offset-lt d s l m)
         ∙ sym (ap (λ (p : ℕ). getD xs p z) (h .is)))
 
-    pub carried-blank : Blank z xs d → Blank z (moved z (d .pages) (d .reserve) v (sources v d) xs) (reclaimedAt v d)
+    pub carried-blank : Blank z xs d → Blank z (moved z v d xs) (reclaimedAt v d)
+    unfolding moved emptied
     carried-blank y c o h k i =
         let h′ : c < blocks d = rw re-blocks at h in
         let i′ : o < d .pages = rw re-pages at i in
         rw re-pages (three c
-        (λ q. rw q (moved-gone z (d .pages) (d .reserve) v (sources v d) xs few-sources (fits (d .reserve) (s .kept)) (fits v a) e o i′))
+        (λ q. rw q (emptied-gone z (d .pages) (d .reserve) v (sources v d) xs few-sources (fits (d .reserve) (s .kept)) (fits v a) e o i′))
         (λ q. let t : valid d v ≤ o = omega (arith, ap (fill (reclaimedAt v d)) q, re-fill-reserve) in
-        rw q (moved-rest z (d .pages) (d .reserve) v (sources v d) xs few-sources (fits (d .reserve) (s .kept)) (fits v a) e o (omega (arith, length-sources)) i′
+        rw q (emptied-rest z (d .pages) (d .reserve) v (sources v d) xs few-sources (fits (d .reserve) (s .kept)) (fits v a) e o (omega (arith, length-sources)) i′
         ∙ y (d .reserve) o (s .kept) (omega (arith, s .empty)) i′))
         (λ f g. carried-other c o f g i′ ∙ y c o h′ (rw (re-fill c f g) at k) i′))
 
@@ -246,7 +263,7 @@ module _ (d : Device) (s : Sound d) (v : ℕ) (a : v < blocks d) (e : v ≡ d .r
 
   re-whole : length (reclaimedAt v d .spare) ≡ blocks (reclaimedAt v d) * reclaimedAt v d .pages
   unfolding reclaimedAt
-  re-whole = length-moved none (d .pages) (d .reserve) v (sources v d) (d .spare) ∙ s .whole ∙ sym (ap (λ (x : ℕ). x * d .pages) re-blocks)
+  re-whole = length-moved none (d .spare) (s .whole) ∙ s .whole ∙ sym (ap (λ (x : ℕ). x * d .pages) re-blocks)
 
   re-full : (c : ℕ) → c < blocks d → fill (reclaimedAt v d) c ≤ d .pages
   re-full c h =
@@ -317,7 +334,7 @@ module _ (d : Device) (s : Sound d) (v : ℕ) (a : v < blocks d) (e : v ≡ d .r
       let l = label d (v * d .pages + nth v d i) in
       named-by (reclaimedAt v d) re-sound (d .reserve) (omega (arith, re-blocks, s .kept)) i l (omega (arith, re-pages, valid-le d s v a))
       (re-at l ∙ ap (goes v (d .reserve) d) (named-label d s v a (nth v d i) (k .below) (k .passes))
-      ∙ goes-victim v (d .reserve) d (nth v d i) (k .below)
+      ∙ goes-within (nth v d i) (k .below)
       ∙ ap (λ (x : ℕ). d .reserve * d .pages + x) (k .place)
       ∙ sym (ap (λ (n : ℕ). d .reserve * n + i) re-pages))
 

@@ -156,8 +156,8 @@ module _ (d : Device) (s : Sound d) where
         (λ here. let m : p % d .pages < d .pages = mod-lt p (s .some) in
         movesTo-here (d .pages) (covered (extents d) (d .pages) v) v r p here
         ∙ ap (λ (k : ℕ). r * d .pages + k) (count-same (p % d .pages) (covered (extents d) (d .pages) v) (named d v) (λ o h. covered-named v a o (omega arith)))
-        ∙ sym (goes-moves v r d p ∙ movesTo-here (d .pages) (named d v) v r p here))
-        (λ else. movesTo-else (d .pages) (covered (extents d) (d .pages) v) v r p else ∙ sym (goes-moves v r d p ∙ movesTo-else (d .pages) (named d v) v r p else))
+        ∙ sym (goes-moves v r d (none-block d s v a) p ∙ movesTo-here (d .pages) (named d v) v r p here))
+        (λ else. movesTo-else (d .pages) (covered (extents d) (d .pages) v) v r p else ∙ sym (goes-moves v r d (none-block d s v a) p ∙ movesTo-else (d .pages) (named d v) v r p else))
 
     pub remapped-extents : remapped (d .pages) v (d .reserve) (extents d) ≡ extents (reclaimedAt v d)
     unfolding remapped

@@ -17,16 +17,18 @@ victim d = most (blocks d) (staleIn d)
 unfoldable pub sources : ℕ → Device → List ℕ
 sources v d = map (λ o. v * d .pages + o) (picks (d .pages) (named d v))
 
--- where page p goes: a page of block v into block r, behind the mapped pages that lie before it in v; any other stays
+-- where what a line names goes: a hole stays one; a page of block v goes into block r, behind the mapped pages that lie before it in v; any other
+-- page stays
 unfoldable pub goes : ℕ → ℕ → Device → ℕ → ℕ
-goes v r d p = cond (eqb (p / d .pages) v) (r * d .pages + count (p % d .pages) (named d v)) p
+goes v r d p = cond (eqb p none) none (cond (eqb (p / d .pages) v) (r * d .pages + count (p % d .pages) (named d v)) p)
 
--- cells of a device, labels or contents: those at ps are copied one after the other into block r from offset 0, and block v is then emptied
+-- one cell for each page of the device, its label or its contents: the cells of the pages ps, copied one after the other to page `to` and those after it
 unfoldable pub copied : {A : Type 0} → A → ℕ → List ℕ → List A → List A
-copied z to ps xs = sets xs to (map (λ p. getD xs p z) ps)
+copied empty to ps cells = sets cells to (map (λ p. getD cells p empty) ps)
 
-unfoldable pub moved : {A : Type 0} → A → ℕ → ℕ → ℕ → List ℕ → List A → List A
-moved z n r v ps xs = sets (copied z (r * n) ps xs) (v * n) (replicate n z)
+-- such cells when block v is reclaimed: the cells of its mapped pages are copied into the reserve from offset 0, and those of block v are then empty
+unfoldable pub moved : {A : Type 0} → A → ℕ → Device → List A → List A
+moved empty v d cells = sets (copied empty (d .reserve * d .pages) (sources v d) cells) (v * d .pages) (replicate (d .pages) empty)
 
 -- block v emptied into the reserve: the copies' labels go along; v has fill 0, its labels are erased, and it becomes the reserve
 unfoldable pub reclaimedAt : ℕ → Device → Device
@@ -35,7 +37,7 @@ reclaimedAt v d = record {
   slots = d .slots;
   table = map (goes v (d .reserve) d) (d .table);
   fills = set (set (d .fills) (d .reserve) (valid d v)) v 0;
-  spare = moved none (d .pages) (d .reserve) v (sources v d) (d .spare);
+  spare = moved none v d (d .spare);
   reserve = v;
   last = d .last;
 }
