@@ -9,11 +9,12 @@ use Rattle.rules.specs.Extents.{none}
 use Rattle.rules.specs.Blocks.{stride, fillWord, validWord, records}
 use Rattle.rules.specs.Lent.{Lent, lent, inUse}
 use Rattle.rules.specs.Device.{blocks, valid, extents, deviceOf, headOf, wordsOf}
-use Rattle.rules.specs.Reclaim.{victim, sources, moved, reclaimedAt, reclaimed}
+use Rattle.rules.specs.Reclaim.{victim, sources, reclaimedAt, reclaimed}
 use Rattle.rules.specs.Answers.{said, outcome}
 use Rattle.rules.specs.Calls.{Call, counts, leaves, lists, over, call}
 use Rattle.rules.specs.declared.Head.{Head}
 use Rattle.rules.specs.declared.Extent.{Extent}
+use Rattle.laws.specs.Cells.{swept}
 use Rattle.laws.specs.Device.{Sound}
 use Rattle.laws.specs.Shapes.{lines-pages, pages-high}
 use Rattle.laws.specs.States.{device-blocks, device-lines, device-words, extents-in-use, sane-good}
@@ -139,17 +140,17 @@ module _ (out : List ℕ) (s : Lent) (z : Ready (Call.reclaim out) s) where
       copies = e ∙ reclaim-copies v f ranks r
 
       -- the labels afterwards
-      spare-is : (spare : List ℕ) → spare ≡ moved none (s .head .pages) (s .head .reserve) v (take k out′) (s .spare) → spare ≡ reclaimedAt v (deviceOf s) .spare
+      spare-is : (spare : List ℕ) → spare ≡ swept none (s .head .pages) (s .head .reserve) v (take k out′) (s .spare) → spare ≡ reclaimedAt v (deviceOf s) .spare
       unfolding deviceOf
       spare-is spare p =
           p
-          ∙ ap (λ (m : ℕ). moved none (s .head .pages) (s .head .reserve) v (take m out′) (s .spare)) copies
+          ∙ ap (λ (m : ℕ). swept none (s .head .pages) (s .head .reserve) v (take m out′) (s .spare)) copies
           ∙ moved-labels (deviceOf s) sound v (inside v f) (other v f) out out′ (few v f ranks r) (listed v f ranks r out′ g)
 
       module _ (w : ℕ) (ext blk spare : List ℕ) (a : w ≡ length (remapped (s .head .pages) v (s .head .reserve) (inUse s)))
           (x : ext ≡ laid (remapped (s .head .pages) v (s .head .reserve) (inUse s)) (length (s .extents)))
           (b : blk ≡ emptied (s .head .reserve) v (s .blocks))
-          (l : spare ≡ moved none (s .head .pages) (s .head .reserve) v (take k out′) (s .spare)) where
+          (l : spare ≡ swept none (s .head .pages) (s .head .reserve) v (take k out′) (s .spare)) where
         -- the head afterwards
         abbrev head : Head
         head = record {

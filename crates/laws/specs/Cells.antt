@@ -1,4 +1,4 @@
--- Runs of stores read by index, and a block's cells copied to another block and then emptied.
+-- Runs of stores read by index, and a block's cells copied to another block and then swept.
 use Prim.Native.Nat.{ℕ, zero, suc, _+_, _-_, _*_, _≤_, _<_}
 use mathlib.Core.Path.{_≡_, refl, sym, ap, ap₂, _∙_}
 use mathlib.Core.List.{List, [], _∷_, _++_, map}
@@ -173,43 +173,43 @@ module _ {A : Type 0} (z : A) where
   unfolding copied
   length-copied a ps xs = length-sets xs a (map (λ p. getD xs p z) ps)
 
-  -- then block v emptied; n pages a block
-  unfoldable pub emptied : ℕ → ℕ → ℕ → List ℕ → List A → List A
-  emptied n r v ps xs = sets (copied z (r * n) ps xs) (v * n) (replicate n z)
+  -- then block v swept; n pages a block
+  unfoldable pub swept : ℕ → ℕ → ℕ → List ℕ → List A → List A
+  swept n r v ps xs = sets (copied z (r * n) ps xs) (v * n) (replicate n z)
 
-  pub length-emptied : (n r v : ℕ) (ps : List ℕ) (xs : List A) → length (emptied n r v ps xs) ≡ length xs
-  unfolding emptied
-  length-emptied n r v ps xs = length-sets (copied z (r * n) ps xs) (v * n) (replicate n z) ∙ length-copied (r * n) ps xs
+  pub length-swept : (n r v : ℕ) (ps : List ℕ) (xs : List A) → length (swept n r v ps xs) ≡ length xs
+  unfolding swept
+  length-swept n r v ps xs = length-sets (copied z (r * n) ps xs) (v * n) (replicate n z) ∙ length-copied (r * n) ps xs
 
   module _ (n r v : ℕ) (ps : List ℕ) (xs : List A) (m : length ps ≤ n) (f : r * n + n ≤ length xs) (g : v * n + n ≤ length xs) (e : v ≡ r → ⊥) where
-    wiped-other : (c o : ℕ) → (c ≡ v → ⊥) → o < n → getD (emptied n r v ps xs) (c * n + o) z ≡ getD (copied z (r * n) ps xs) (c * n + o) z
-    unfolding emptied
+    wiped-other : (c o : ℕ) → (c ≡ v → ⊥) → o < n → getD (swept n r v ps xs) (c * n + o) z ≡ getD (copied z (r * n) ps xs) (c * n + o) z
+    unfolding swept
     wiped-other c o u h =
         sets-other (replicate n z) (copied z (r * n) ps xs) (v * n) (c * n + o) (λ p q. far n c v o u h p (omega (arith, length-replicate n z)))
 
-    pub emptied-in : (i : ℕ) (y : ℕ) → i < length ps → getD (emptied n r v ps xs) (r * n + i) z ≡ getD xs (getD ps i y) z
+    pub swept-in : (i : ℕ) (y : ℕ) → i < length ps → getD (swept n r v ps xs) (r * n + i) z ≡ getD xs (getD ps i y) z
     unfolding copied
-    emptied-in i y h =
+    swept-in i y h =
         let w = length-map ps (λ p. getD xs p z) in
         wiped-other r i (λ q. e (sym q)) (omega arith)
         ∙ sets-in (map (λ p. getD xs p z) ps) xs (r * n) (r * n + i) i (omega arith) (omega arith) refl
         ∙ map-at (λ p. getD xs p z) ps i y h
 
-    pub emptied-rest : (i : ℕ) → length ps ≤ i → i < n → getD (emptied n r v ps xs) (r * n + i) z ≡ getD xs (r * n + i) z
+    pub swept-rest : (i : ℕ) → length ps ≤ i → i < n → getD (swept n r v ps xs) (r * n + i) z ≡ getD xs (r * n + i) z
     unfolding copied
-    emptied-rest i h k =
+    swept-rest i h k =
         wiped-other r i (λ q. e (sym q)) k
         ∙ sets-other (map (λ p. getD xs p z) ps) xs (r * n) (r * n + i) (λ p q. omega (arith, length-map ps (λ p. getD xs p z)))
 
-    pub emptied-gone : (o : ℕ) → o < n → getD (emptied n r v ps xs) (v * n + o) z ≡ z
-    unfolding emptied
-    emptied-gone o h =
+    pub swept-gone : (o : ℕ) → o < n → getD (swept n r v ps xs) (v * n + o) z ≡ z
+    unfolding swept
+    swept-gone o h =
         let w = length-replicate n z in
         sets-in (replicate n z) (copied z (r * n) ps xs) (v * n) (v * n + o) o (omega arith) (omega (arith, length-copied (r * n) ps xs)) refl
         ∙ getD-replicate n o z z h
 
-    pub emptied-other : (c o : ℕ) → (c ≡ v → ⊥) → (c ≡ r → ⊥) → o < n → getD (emptied n r v ps xs) (c * n + o) z ≡ getD xs (c * n + o) z
+    pub swept-other : (c o : ℕ) → (c ≡ v → ⊥) → (c ≡ r → ⊥) → o < n → getD (swept n r v ps xs) (c * n + o) z ≡ getD xs (c * n + o) z
     unfolding copied
-    emptied-other c o u t h =
+    swept-other c o u t h =
         wiped-other c o u h
         ∙ sets-other (map (λ p. getD xs p z) ps) xs (r * n) (c * n + o) (λ p q. far n c r o t h p (omega (arith, length-map ps (λ p. getD xs p z))))

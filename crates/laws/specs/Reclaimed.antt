@@ -18,7 +18,7 @@ use Rattle.rules.specs.Reclaim.{victim, sources, goes, moved, reclaimedAt, recl
 use Rattle.laws.specs.Bools.{same-test}
 use Rattle.laws.specs.Sums.{sum-change, sum-zero, count-same, count-none, count-rise, count-change}
 use Rattle.laws.specs.Picks.{most-lt, most-top, most-lowest, length-picks, picks-at, Picked, picked}
-use Rattle.laws.specs.Cells.{block-le, map-at, emptied, length-emptied, emptied-in, emptied-rest, emptied-gone, emptied-other}
+use Rattle.laws.specs.Cells.{block-le, map-at, swept, length-swept, swept-in, swept-rest, swept-gone, swept-other}
 use Rattle.laws.specs.Device.{Home, Sound, Blank, same-block, page-lt, offset-lt, none-block, home-block}
 use Rattle.laws.specs.Live.{named-by, named-label, named-below, count-named}
 use Rattle.laws.specs.Balance.{valid-named, valid-stale, valid-le, stale-reserve, balance}
@@ -175,22 +175,22 @@ module _ (d : Device) (s : Sound d) (v : ℕ) (a : v < blocks d) (e : v ≡ d .r
 
   module _ {A : Type 0} (z : A) (xs : List A) (w : length xs ≡ blocks d * d .pages) where
     pub length-moved : length (moved z v d xs) ≡ length xs
-    unfolding moved emptied
-    length-moved = length-emptied z (d .pages) (d .reserve) v (sources v d) xs
+    unfolding moved swept
+    length-moved = length-swept z (d .pages) (d .reserve) v (sources v d) xs
 
     fits : (c : ℕ) → c < blocks d → c * d .pages + d .pages ≤ length xs
     fits c h = omega (arith, block-le (d .pages) c (blocks d) h)
 
     carried-in : (i : ℕ) → i < valid d v → getD (moved z v d xs) (d .reserve * d .pages + i) z ≡ getD xs (v * d .pages + nth v d i) z
-    unfolding moved emptied
+    unfolding moved swept
     carried-in i h =
-        emptied-in z (d .pages) (d .reserve) v (sources v d) xs few-sources (fits (d .reserve) (s .kept)) (fits v a) e i 0 (omega (arith, length-sources))
+        swept-in z (d .pages) (d .reserve) v (sources v d) xs few-sources (fits (d .reserve) (s .kept)) (fits v a) e i 0 (omega (arith, length-sources))
         ∙ ap (λ (p : ℕ). getD xs p z) (source-page i 0 h)
 
     carried-other : (c o : ℕ) → (c ≡ v → ⊥) → (c ≡ d .reserve → ⊥) → o < d .pages
         → getD (moved z v d xs) (c * d .pages + o) z ≡ getD xs (c * d .pages + o) z
-    unfolding moved emptied
-    carried-other c o f g h = emptied-other z (d .pages) (d .reserve) v (sources v d) xs few-sources (fits (d .reserve) (s .kept)) (fits v a) e c o f g h
+    unfolding moved swept
+    carried-other c o f g h = swept-other z (d .pages) (d .reserve) v (sources v d) xs few-sources (fits (d .reserve) (s .kept)) (fits v a) e c o f g h
 
     -- the cell of a mapped page goes where the page goes
     pub carried-kept : (l : ℕ) → (at d l ≡ none → ⊥) → getD (moved z v d xs) (at (reclaimedAt v d) l) z ≡ getD xs (at d l) z
@@ -208,14 +208,14 @@ module _ (d : Device) (s : Sound d) (v : ℕ) (a : v < blocks d) (e : v ≡ d .r
         ∙ sym (ap (λ (p : ℕ). getD xs p z) (h .is)))
 
     pub carried-blank : Blank z xs d → Blank z (moved z v d xs) (reclaimedAt v d)
-    unfolding moved emptied
+    unfolding moved swept
     carried-blank y c o h k i =
         let h′ : c < blocks d = rw re-blocks at h in
         let i′ : o < d .pages = rw re-pages at i in
         rw re-pages (three c
-        (λ q. rw q (emptied-gone z (d .pages) (d .reserve) v (sources v d) xs few-sources (fits (d .reserve) (s .kept)) (fits v a) e o i′))
+        (λ q. rw q (swept-gone z (d .pages) (d .reserve) v (sources v d) xs few-sources (fits (d .reserve) (s .kept)) (fits v a) e o i′))
         (λ q. let t : valid d v ≤ o = omega (arith, ap (fill (reclaimedAt v d)) q, re-fill-reserve) in
-        rw q (emptied-rest z (d .pages) (d .reserve) v (sources v d) xs few-sources (fits (d .reserve) (s .kept)) (fits v a) e o (omega (arith, length-sources)) i′
+        rw q (swept-rest z (d .pages) (d .reserve) v (sources v d) xs few-sources (fits (d .reserve) (s .kept)) (fits v a) e o (omega (arith, length-sources)) i′
         ∙ y (d .reserve) o (s .kept) (omega (arith, s .empty)) i′))
         (λ f g. carried-other c o f g i′ ∙ y c o h′ (rw (re-fill c f g) at k) i′))
 

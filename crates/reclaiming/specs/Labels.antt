@@ -10,8 +10,8 @@ use borrow.Rule.Slice.PartMut.{midOf, putMid}
 use lib.ListN.{length, getD, set, take, replicate}
 use lib.Seq.{sets, take-suc, getD-take, length-take-le}
 use Rattle.rules.specs.Extents.{none}
-use Rattle.rules.specs.Reclaim.{copied, moved}
-use Rattle.laws.specs.Cells.{block-le, copies, copies-copied, length-copied}
+use Rattle.rules.specs.Reclaim.{copied}
+use Rattle.laws.specs.Cells.{block-le, swept, copies, copies-copied, length-copied}
 use Rattle.choosing.specs.Part.{part-filled}
 
 -- the first k words of ps are pages of block v, and all their labels have room in block r
@@ -71,8 +71,8 @@ labels-copied n r v ps k xs c =
 pub labels-moved : (n r v : ℕ) (ps : List ℕ) (k : ℕ) (xs xs′ ys : List ℕ) → Copied n r v ps k (length xs)
     → xs′ ≡ copies none (r * n) (take k ps) xs
     → ys ≡ replicate (length (midOf (v * n) (v * n + n - v * n) xs′)) none
-    → putMid (v * n) (v * n + n - v * n) xs′ ys ≡ moved none n r v (take k ps) xs
-unfolding moved
+    → putMid (v * n) (v * n + n - v * n) xs′ ys ≡ swept none n r v (take k ps) xs
+unfolding swept
 labels-moved n r v ps k xs xs′ ys c e f =
     let g : xs′ ≡ copied none (r * n) (take k ps) xs = e ∙ labels-copied n r v ps k xs c in
     let size : length xs′ ≡ length xs = ap length g ∙ length-copied none (r * n) (take k ps) xs in

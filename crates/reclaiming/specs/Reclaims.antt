@@ -20,12 +20,12 @@ use Rattle.rules.specs.declared.Extent.{Extent}
 use Rattle.laws.specs.Bools.{cases, same-test}
 use Rattle.laws.specs.Sums.{count-same}
 use Rattle.laws.specs.Picks.{most-lt}
-use Rattle.laws.specs.Cells.{block-le, map-same, length-tabulate, getD-tabulate}
+use Rattle.laws.specs.Cells.{block-le, swept, map-same, length-tabulate, getD-tabulate}
 use Rattle.laws.specs.Rows.{Rows, lookup-before, lookup-in, lookup-after}
 use Rattle.laws.specs.Unique.{extent-path}
 use Rattle.laws.specs.Runs.{runs-rows, runs-lookup}
 use Rattle.laws.specs.Norm.{norm, move, movesTo, goes-moves, movesTo-here, movesTo-else}
-use Rattle.laws.specs.Device.{Sound, page-lt}
+use Rattle.laws.specs.Device.{Sound, page-lt, none-block}
 use Rattle.laws.specs.Live.{stands, among-at}
 use Rattle.laws.specs.Balance.{valid-stale}
 use Rattle.laws.specs.Reclaimed.{re-blocks, re-fill-victim, re-fill-reserve, re-fill, length-sources, few-sources, source, source-page, nth}
@@ -209,9 +209,9 @@ module _ (d : Device) (s : Sound d) where
         high = λ i h. omega (arith, listed-at i h, source d s v a e i (omega (arith, length-sources d s v a e)) .below);
       }
 
-      pub moved-labels : moved none (d .pages) (d .reserve) v (take (length (sources v d)) out′) (d .spare) ≡ reclaimedAt v d .spare
-      unfolding reclaimedAt
-      moved-labels = ap (λ (ps : List ℕ). moved none (d .pages) (d .reserve) v ps (d .spare)) listed-sources
+      pub moved-labels : swept none (d .pages) (d .reserve) v (take (length (sources v d)) out′) (d .spare) ≡ reclaimedAt v d .spare
+      unfolding reclaimedAt moved swept
+      moved-labels = ap (λ (ps : List ℕ). swept none (d .pages) (d .reserve) v ps (d .spare)) listed-sources
 
     -- ---- the block records
 

@@ -6,7 +6,7 @@ ghost use Prim.Native.Nat.{ℕ, _+_, _*_, _<_, _≤_};
 ghost use lib.ListN.{length, getD, take};
 ghost use Rattle.rules.specs.Blocks.{stride};
 ghost use Rattle.rules.specs.Extents.{none, end, joinable, slot, slots};
-ghost use Rattle.rules.specs.Reclaim.{moved};
+ghost use Rattle.laws.specs.Cells.{swept};
 ghost use Rattle.laws.specs.Cells.{copies};
 ghost use Rattle.laws.specs.Norm.{move};
 ghost use Rattle.choosing.specs.Covered.{covered};
@@ -46,7 +46,7 @@ fn copy_labels(spare: &mut [u32], out: &[u32], k: usize, to: usize)
 // The labels go along with the copies, and the victim's are erased.
 pub fn move_labels(spare: &mut [u32], out: &[u32], k: usize, n: u32, r: u32, v: u32)
     requires { ⌜ Copied n r v (now out) k (length (now spare)) ⌝ }
-    ensures { λ _. ⌜ now (spare .exit) ≡ moved none n r v (take k (now (out .entry))) (now (spare .entry)) ⌝ }
+    ensures { λ _. ⌜ now (spare .exit) ≡ swept none n r v (take k (now (out .entry))) (now (spare .entry)) ⌝ }
 {
     let pages = n as usize;
     let to = (r as usize) * pages;
