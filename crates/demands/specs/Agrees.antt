@@ -15,7 +15,8 @@ use Rattle.laws.specs.Device.{Sound}
 use Rattle.laws.specs.Placed.{length-targets, targets-open, puts-all}
 use Rattle.laws.specs.Lines.{trimmed-lines}
 use Rattle.laws.specs.Reclaimed.{victim-chosen, re-lines}
-use Rattle.demands.specs.Flash.{Cell, value, Seen, hole, cell, contents, Clean, program, write-shows, trim-clean, trim-shows, trim-keeps, vacate, vacate-clean, vacate-keeps}
+use Rattle.demands.specs.Flash.{Cell, value, Seen, hole, cell, contents}
+use Rattle.demands.specs.Shows.{Clean, program, write-shows, trim-clean, trim-shows, trim-keeps, vacate, vacate-clean, vacate-keeps}
 
 pub record Agrees (d : Device) (f : List Cell) (t : List Seen) : Type 0 where
   pub clean : Clean d f

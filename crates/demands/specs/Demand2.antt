@@ -1,25 +1,20 @@
--- Demand 2. Any list of further calls answers as the plain table does; every page reads as its last accepted write, or as a hole; and no
--- page is programmed twice between erases.
-use Prim.Native.Nat.{ℕ, _<_}
-use mathlib.Core.Bool.{true}
-use mathlib.Core.Path.{_≡_, refl, sym, ap, _∙_, subst}
-use mathlib.Core.List.{List, [], _∷_, map}
-use mathlib.Core.Logic.{by-cases}
-use native.Mathlib.Decide.{ℕ-discrete}
-use lib.ListN.{getD}
+-- Demand 2. From a fresh device on erased flash, any sequence of further calls other than fresh, each given the state the last one left, answers as a
+-- plain table with one line per logical page, kept by the published placement and reclaim rules. If the host programs and copies what accepted calls list,
+-- and erases after the copies, every page reads as its last accepted write, or as a hole after a trim or before any write. No flash page is programmed
+-- twice between erases.
+-- This is the statement; `demand-2` (Proved) proves it.
+use Prim.Native.Nat.{ℕ, _*_, _/_, _%_, _<_}
+use mathlib.Core.Bool.{Bool, true, false, _||_}
+use mathlib.Core.Path.{_≡_}
+use mathlib.Core.List.{List, [], _∷_, _++_, map}
+use lib.Dec.{eqb}
+use lib.ListN.{length, getD, replicate}
 use Rattle.rules.specs.Lent.{Lent}
-use Rattle.rules.specs.Shape.{sizes, shaped}
-use Rattle.rules.specs.Sound.{sound}
-use Rattle.rules.specs.Device.{Device, deviceOf, wordsOf}
+use Rattle.rules.specs.Device.{Device, lines, deviceOf}
 use Rattle.rules.specs.Answers.{Outcome}
-use Rattle.rules.specs.Calls.{Call, refusal, refused, accepted, plain, call, freshDevice}
-use Rattle.demands.specs.Flash.{Cell, hole}
-use Rattle.laws.specs.Sane.{Good}
-use Rattle.laws.specs.Calls.{encoded, call-plain}
-use Rattle.laws.specs.Kept.{keeps, device-good, device-is}
-use Rattle.demands.specs.Host.{Ask, reads, run, ErasedFromFill, begin, Programs}
-use Rattle.demands.specs.Worlds.{plain-accepted, plain-refused, run-holds, run-programs, holds-reads}
-use Rattle.demands.specs.Starts.{begin-holds, freshWorld, fresh-good, fresh-holds}
+use Rattle.rules.specs.Calls.{Call, plain, encoded, call}
+use Rattle.demands.specs.Flash.{erased, hole, contents}
+use Rattle.demands.specs.Host.{Ask, Op, ops, marking, reads, World, step, run}
 
 -- ---- the answers: any calls other than fresh, accepted and refused mixed, with any numbers, ranges and answer buffers, each given the
 -- state that the last one left
@@ -29,48 +24,61 @@ history [] s = []
 history (c ∷ cs) s = let o = call c s in o ∷ history cs (o .after)
 
 -- the same on the plain table
-unfoldable pub plainly : List Call → Device → List (Outcome Device)
-plainly [] d = []
-plainly (c ∷ cs) d = let o = plain c d in o ∷ plainly cs (o .after)
+unfoldable pub plainHistory : List Call → Device → List (Outcome Device)
+plainHistory [] d = []
+plainHistory (c ∷ cs) d = let o = plain c d in o ∷ plainHistory cs (o .after)
 
-plain-good : (c : Call) (d : Device) → Good d → Good (plain c d .after)
-unfolding accepted refused
-plain-good c d g =
-    by-cases (ℕ-discrete (refusal c d) 0)
-    (λ e. subst (λ (o : Outcome Device). Good (o .after)) (sym (plain-accepted c d e)) (keeps c d g e))
-    (λ e. subst (λ (o : Outcome Device). Good (o .after)) (sym (plain-refused c d e)) g)
+-- ---- what the host does in a history, in order
 
-answers : (cs : List Call) (d : Device) → Good d → history cs (wordsOf d) ≡ map encoded (plainly cs d)
-unfolding history plainly encoded
-answers [] d g = refl
-answers (c ∷ cs) d g =
-    ap (λ (o : Outcome Lent). o ∷ history cs (o .after)) (call-plain c d g)
-    ∙ ap (λ (os : List (Outcome Lent)). encoded (plain c d) ∷ os) (answers cs (plain c d .after) (plain-good c d g))
+unfoldable pub trace : List Ask → World → List Op
+trace [] w = []
+trace (a ∷ rest) w = ops a (w .state) ++ trace rest (step a w)
 
--- from any sound state
-pub answers-as-the-table : (cs : List Call) (s : Lent) → shaped s ≡ true → sound s ≡ true → history cs s ≡ map encoded (plainly cs (deviceOf s))
-answers-as-the-table cs s z e = ap (history cs) (sym (device-is s z e)) ∙ answers cs (deviceOf s) (device-good s z e)
+-- page p is programmed, with contents or as the target of a copy
+abbrev pub onto : ℕ → Op → Bool
+onto p (Op.program q x) = eqb q p
+onto p (Op.copy q r) = eqb r p
+onto p (Op.erase b) = false
 
--- ---- the pages, from any sound state on a flash that is erased from each fill on: the host does what accepted calls list
+-- block b is erased
+abbrev pub erasing : ℕ → Op → Bool
+erasing b (Op.program p x) = false
+erasing b (Op.copy p q) = false
+erasing b (Op.erase c) = eqb c b
 
--- a line reads as its last accepted write, as a hole after a trim, and before any of them as it did at the beginning
-pub demand-2 : (s : Lent) → shaped s ≡ true → sound s ≡ true → (f : List Cell) → ErasedFromFill s f → (asks : List Ask) (l : ℕ) → l < s .head .logical
-    → reads (run asks (begin s f) .state) (run asks (begin s f) .flash) l ≡ getD (run asks (begin s f) .table) l hole
-demand-2 s z e f c asks =
-    holds-reads (s .head .logical) (run asks (begin s f)) (run-holds (s .head .logical) asks (begin s f) (begin-holds s z e f c))
+-- at one of these steps
+unfoldable pub erases : ℕ → List Op → Bool
+erases b [] = false
+erases b (o ∷ os) = erasing b o || erases b os
 
--- every page that is programmed or copied to is erased, and is the next of its block
-pub demand-2-programs : (s : Lent) → shaped s ≡ true → sound s ≡ true → (f : List Cell) → ErasedFromFill s f → (asks : List Ask) → Programs asks (begin s f)
-demand-2-programs s z e f c asks = run-programs (s .head .logical) asks (begin s f) (begin-holds s z e f c)
+-- no flash page is programmed twice between erases: wherever page p is programmed and programmed again, its block is erased in between; N = n
+abbrev pub NotTwice : ℕ → List Op → Type 0
+NotTwice n os = (before between after : List Op) (x y : Op) (p : ℕ)
+    → os ≡ before ++ x ∷ (between ++ y ∷ after) → onto p x ≡ true → onto p y ≡ true → erases (p / n) between ≡ true
 
--- ---- the same from a fresh device on erased flash, where every line begins as a hole
+-- pages of a block are programmed from first to last: page p is one of the flash, and it is programmed when just as many pages of its block have been
+-- programmed since the block was last erased as lie before it there; m says how many of each block were at the beginning
+abbrev pub InOrder : ℕ → List ℕ → List Op → Type 0
+InOrder n m os = (before after : List Op) (x : Op) (p : ℕ)
+    → os ≡ before ++ x ∷ after → onto p x ≡ true → (p / n < length m) × (getD (marking n before m) (p / n) 0 ≡ p % n)
 
-pub fresh-answers : (b n l m : ℕ) → sizes b n l m ≡ true → (cs : List Call) → history cs (wordsOf (freshDevice b n l m)) ≡ map encoded (plainly cs (freshDevice b n l m))
-fresh-answers b n l m z cs = answers cs (freshDevice b n l m) (fresh-good b n l m z)
+-- ---- the demand, of a history that begins in world w, whose plain device is d
 
-pub demand-2-fresh : (b n l m : ℕ) → sizes b n l m ≡ true → (asks : List Ask) (k : ℕ) → k < l
-    → reads (run asks (freshWorld b n l m) .state) (run asks (freshWorld b n l m) .flash) k ≡ getD (run asks (freshWorld b n l m) .table) k hole
-demand-2-fresh b n l m z asks = holds-reads l (run asks (freshWorld b n l m)) (run-holds l asks (freshWorld b n l m) (fresh-holds b n l m z))
+pub record Demand2 (w : World) (d : Device) (asks : List Ask) : Type 0 where
+  pub answers : history (map (λ a. a .request) asks) (w .state) ≡ map encoded (plainHistory (map (λ a. a .request) asks) d)
+  -- a read of any page shows what its last accepted write or trim says (`shown`, Host), and before any of them what it showed at the beginning
+  pub reads : (l : ℕ) → l < lines d → reads (run asks w .state) (run asks w .flash) l ≡ getD (run asks w .table) l hole
+  -- and so does the entry that its mapping names
+  pub contents : (l : ℕ) → l < lines d → contents (deviceOf (run asks w .state)) (run asks w .flash) l ≡ getD (run asks w .table) l hole
+  pub notTwice : NotTwice (d .pages) (trace asks w)
+  pub inOrder : InOrder (d .pages) (w .programmed) (trace asks w)
 
-pub demand-2-fresh-programs : (b n l m : ℕ) → sizes b n l m ≡ true → (asks : List Ask) → Programs asks (freshWorld b n l m)
-demand-2-fresh-programs b n l m z asks = run-programs l asks (freshWorld b n l m) (fresh-holds b n l m z)
+-- ---- where it begins: the state that an accepted fresh left, on erased flash; no page is programmed, and every logical page is to show a hole
+
+unfoldable pub beginFresh : Lent → World
+beginFresh s = record {
+  state = s;
+  flash = replicate (s .head .blocks * s .head .pages) erased;
+  programmed = replicate (s .head .blocks) 0;
+  table = replicate (s .head .logical) hole;
+}

@@ -1,7 +1,7 @@
--- What the host does with an answer, on flash whose cells are erased or hold a number; what each logical page is then to show; and when
--- programming is allowed. Demands 2 and 3 speak in these words.
+-- What the host does with an answer, and what that does to the flash; what each logical page is then to show, and what it reads as; histories of
+-- requests with a host that does as listed. The demands speak in these words.
 use Prim.Native.Nat.{ℕ, zero, suc, _+_, _-_, _*_, _/_, _%_, _≤_, _<_}
-use mathlib.Core.Bool.{cond}
+use mathlib.Core.Bool.{Bool, true, false, cond}
 use mathlib.Core.Path.{_≡_}
 use mathlib.Core.List.{List, [], _∷_, _++_}
 use lib.Dec.{eqb}
@@ -14,7 +14,7 @@ use Rattle.rules.specs.Answers.{Outcome}
 use Rattle.rules.specs.Calls.{Call, call}
 use Rattle.rules.specs.declared.Head.{Head}
 use Rattle.rules.specs.declared.Extent.{Extent}
-use Rattle.demands.specs.Flash.{Cell, erased, value, Seen, hole, cell, see}
+use Rattle.demands.specs.Flash.{Cell, erased, value, Seen, hole, cell, unread, see}
 
 -- a request and, for a write, what its pages are to hold, in order (0 where the list ends)
 pub record Ask : Type 0 where
@@ -41,16 +41,17 @@ unfoldable pub copies : ℕ → List ℕ → List Op
 copies to [] = []
 copies to (p ∷ ps) = Op.copy p to ∷ copies (suc to) ps
 
--- by the answer alone, and the head that the request was given: the old reserve takes the copies, the new reserve is then erased
-unfoldable pub listed : Call → List ℕ → Head → Outcome Lent → List Op
-listed (Call.write k l n out) xs h o = programs l xs (slots (o .out) 0 (getD (o .counts) 0 0))
-listed (Call.trim k l n) xs h o = []
-listed (Call.read l n out) xs h o = []
-listed (Call.reclaim out) xs h o = copies (h .reserve * h .pages) (take (getD (o .counts) 0 0) (o .out)) ++ Op.erase (o .after .head .reserve) ∷ []
-listed Call.report xs h o = []
+-- what the host must do by an accepted answer alone, and by the head that the request was given: the old reserve takes the copies, the new reserve is
+-- then erased
+unfoldable pub toDo : Call → List ℕ → Head → Outcome Lent → List Op
+toDo (Call.write k l n out) xs h o = programs l xs (slots (o .out) 0 (getD (o .counts) 0 0))
+toDo (Call.trim k l n) xs h o = []
+toDo (Call.read l n out) xs h o = []
+toDo (Call.reclaim out) xs h o = copies (h .reserve * h .pages) (take (getD (o .counts) 0 0) (o .out)) ++ Op.erase (o .after .head .reserve) ∷ []
+toDo Call.report xs h o = []
 
 unfoldable pub ops : Ask → Lent → List Op
-ops a s = let o = call (a .request) s in cond (eqb (o .refusal) 0) (listed (a .request) (a .contents) (s .head) o) []
+ops a s = let o = call (a .request) s in cond (eqb (o .refusal) 0) (toDo (a .request) (a .contents) (s .head) o) []
 
 -- ---- what that does to the flash, with N = n
 
@@ -101,9 +102,9 @@ shown (Call.read l n out) xs t = t
 shown (Call.reclaim out) xs t = t
 shown Call.report xs t = t
 
--- what logical page l reads as: the read call's answer names a page, or a hole
+-- what logical page l reads as: the answer of a read of this page names its physical page or a hole; a refused read shows nothing
 unfoldable pub reads : Lent → List Cell → ℕ → Seen
-reads s f l = see f (getD (call (Call.read l 1 (replicate 3 0)) s .out) 1 none)
+reads s f l = let o = call (Call.read l 1 (replicate 3 0)) s in cond (eqb (o .refusal) 0) (see f (getD (o .out) 1 none)) (unread (o .refusal))
 
 -- ---- histories
 

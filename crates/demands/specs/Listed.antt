@@ -17,7 +17,8 @@ use Rattle.laws.specs.Cells.{tabulate-same, tabulate-append, Blanks, copies as 
 use Rattle.laws.specs.Runs.{joinable-true, join-joined, join-apart, runs-page}
 use Rattle.laws.specs.Device.{Sound}
 use Rattle.laws.specs.Placed.{Opens, put-one}
-use Rattle.demands.specs.Flash.{Cell, erased, value, Clean, put-ready, put-inside, put-clean, program}
+use Rattle.demands.specs.Flash.{Cell, erased, value}
+use Rattle.demands.specs.Shows.{Clean, put-ready, put-inside, put-clean, program}
 use Rattle.demands.specs.Host.{Op, programs, copies, does, doing, marks, marking, AllAllowed}
 
 -- ---- one thing after another

@@ -12,20 +12,22 @@ use Rattle.rules.specs.Extents.{none, runs}
 use Rattle.rules.specs.Lent.{Lent, fillOf}
 use Rattle.rules.specs.Shape.{sizes, lengths, shaped}
 use Rattle.rules.specs.Sound.{sound}
-use Rattle.rules.specs.Device.{blocks, lines, at, extents, deviceOf, wordsOf}
+use Rattle.rules.specs.Device.{blocks, lines, at, extents, deviceOf, headOf, wordsOf}
 use Rattle.rules.specs.Calls.{freshDevice, sizesOnly, fresh}
 use Rattle.laws.specs.Bools.{cases, and-split}
 use Rattle.laws.specs.Cells.{length-tabulate, getD-tabulate, replicate-at}
 use Rattle.laws.specs.Runs.{runs-hole}
 use Rattle.laws.specs.Fresh.{fresh-blocks, fresh-lines, fresh-at, fresh-sound}
-use Rattle.demands.specs.Flash.{Cell, erased, hole, contents, see-hole, Clean}
+use Rattle.demands.specs.Flash.{Cell, erased, hole, contents}
+use Rattle.demands.specs.Shows.{see-hole, Clean}
 use Rattle.laws.specs.Sane.{Sizes, Good}
 use Rattle.laws.specs.Shapes.{sizes-true, pages-fit}
 use Rattle.laws.specs.States.{device-lines, device-blocks, device-fill, good-shaped, good-sound}
 use Rattle.laws.specs.Kept.{device-good, device-is}
-use Rattle.demands.specs.Host.{reads, World, ErasedFromFill, begin}
+use Rattle.demands.specs.Host.{reads, ErasedFromFill, begin}
+use Rattle.demands.specs.Demand2.{beginFresh}
 use Rattle.demands.specs.Agrees.{Agrees}
-use Rattle.demands.specs.Worlds.{Holds, reads-contents}
+use Rattle.demands.specs.Worlds.{Holds, world, reads-contents}
 
 -- ---- a sound state
 
@@ -68,15 +70,6 @@ module _ (s : Lent) (z : shaped s ≡ true) (e : sound s ≡ true) where
 
 -- ---- the fresh device
 
--- nothing is programmed, and every line is to show a hole
-unfoldable pub freshWorld : ℕ → ℕ → ℕ → ℕ → World
-freshWorld b n l m = record {
-  state = wordsOf (freshDevice b n l m);
-  flash = replicate (b * n) erased;
-  programmed = replicate b 0;
-  table = replicate l hole;
-}
-
 runs-none : (n a l : ℕ) → runs n a (replicate l none) ≡ []
 unfolding runs
 runs-none n a zero = refl
@@ -102,13 +95,16 @@ module _ (b n l m : ℕ) (z : sizes b n l m ≡ true) where
     says = λ k. see-hole (replicate (b * n) erased) (at (freshDevice b n l m) k) (fresh-at b n l m k) ∙ sym (replicate-at hole l k);
   }
 
-  pub fresh-holds : Holds l (freshWorld b n l m)
-  unfolding freshWorld freshDevice
+  fresh-is : beginFresh (wordsOf (freshDevice b n l m)) ≡ world (freshDevice b n l m) (replicate (b * n) erased) (replicate l hole)
+  unfolding beginFresh wordsOf headOf freshDevice
+  fresh-is = rw (fresh-blocks b n l m, fresh-lines b n l m)
+
+  pub fresh-holds : Holds l (beginFresh (wordsOf (freshDevice b n l m)))
   fresh-holds = record {
     device = freshDevice b n l m;
     flash = replicate (b * n) erased;
     table = replicate l hole;
-    is = refl;
+    is = fresh-is;
     good = fresh-good;
     lines = fresh-lines b n l m;
     agrees = fresh-agrees;

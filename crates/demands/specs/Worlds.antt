@@ -18,17 +18,18 @@ use Rattle.rules.specs.Placement.{targets, puts, places, pieces}
 use Rattle.rules.specs.Number.{withTable, numbered, written, trimmed}
 use Rattle.rules.specs.Reclaim.{victim, sources, reclaimedAt, reclaimed}
 use Rattle.rules.specs.Answers.{Outcome}
-use Rattle.rules.specs.Calls.{Call, refusal, counts, leaves, lists, over, refused, accepted, plain, call}
+use Rattle.rules.specs.Calls.{Call, refusal, counts, leaves, lists, over, refused, accepted, plain, encoded, call}
 use Rattle.rules.specs.declared.Head.{Head}
 use Rattle.laws.specs.Cells.{length-tabulate, tabulate-same}
 use Rattle.laws.specs.Slots.{slots-flat}
 use Rattle.laws.specs.Device.{Sound}
 use Rattle.laws.specs.Placed.{length-targets, targets-open, length-placed, places-lt}
 use Rattle.laws.specs.Reclaimed.{length-sources, few-sources, victim-chosen}
-use Rattle.demands.specs.Flash.{Cell, erased, Seen, hole, see, contents, vacate, vacate-ready}
+use Rattle.demands.specs.Flash.{Cell, erased, Seen, hole, see, contents}
+use Rattle.demands.specs.Shows.{vacate, vacate-ready}
 use Rattle.laws.specs.Sane.{Good}
-use Rattle.laws.specs.Calls.{encoded, call-plain}
-use Rattle.demands.specs.Host.{Ask, Op, programs, copies, listed, ops, does, doing, marks, marking, AllAllowed, shown, reads, World, step, run, Programs}
+use Rattle.laws.specs.Calls.{call-plain}
+use Rattle.demands.specs.Host.{Ask, Op, programs, copies, toDo, ops, does, doing, marks, marking, AllAllowed, shown, reads, World, step, run, Programs}
 use Rattle.demands.specs.Reads.{read-passes, read-lists}
 use Rattle.laws.specs.Kept.{Taken, taken, keeps}
 use Rattle.demands.specs.Listed.{doing-append, marking-append, allowed-append, writes, programs-runs, writes-does, writes-marks, writes-allowed, copies-does, copies-marks, copies-allowed}
@@ -48,10 +49,10 @@ plain-refused c d e = rw (ne-eqb (refusal c d) 0 e)
 
 -- by an accepted call's answer
 unfoldable pub tasks : Call → List ℕ → Device → List Op
-tasks c xs d = listed c xs (headOf d) (encoded (accepted c d))
+tasks c xs d = toDo c xs (headOf d) (encoded (accepted c d))
 
 tasks-write : (k l n : ℕ) (out xs : List ℕ) (d : Device) → Sound d → Taken (Call.write k l n out) d → tasks (Call.write k l n out) xs d ≡ writes (places l n d) (padded n xs)
-unfolding tasks listed encoded accepted counts lists over pieces places
+unfolding tasks toDo encoded accepted counts lists over pieces places
 tasks-write k l n out xs d s t =
     let ps = places l n d in
     let bs = targets l n d in
@@ -63,7 +64,7 @@ tasks-write k l n out xs d s t =
     ∙ ap (writes ps) (tabulate-same n (λ j. getD xs (0 + j) 0) (λ j. getD xs j 0) (λ j h. let g : 0 + j ≡ j = omega arith in ap (λ (x : ℕ). getD xs x 0) g))
 
 tasks-reclaim : (out xs : List ℕ) (d : Device) → tasks (Call.reclaim out) xs d ≡ copies (d .reserve * d .pages) (sources (victim d) d) ++ Op.erase (victim d) ∷ []
-unfolding tasks listed encoded accepted counts lists leaves over headOf wordsOf reclaimed reclaimedAt
+unfolding tasks toDo encoded accepted counts lists leaves over headOf wordsOf reclaimed reclaimedAt
 tasks-reclaim out xs d =
     let ps = sources (victim d) d in
     ap (λ (qs : List ℕ). copies (d .reserve * d .pages) qs ++ Op.erase (victim d) ∷ []) (take-append-seam ps (drop (length ps) out))
@@ -113,7 +114,7 @@ served-reclaim out xs d f t s a h =
     }
 
 pub served : (c : Call) (xs : List ℕ) (d : Device) (f : List Cell) (t : List Seen) → Good d → Agrees d f t → Taken c d → Served c xs d f t (tasks c xs d)
-unfolding tasks listed leaves shown trimmed withTable doing marking
+unfolding tasks toDo leaves shown trimmed withTable doing marking
 served (Call.write k l n out) xs d f t g a h =
     subst (Served (Call.write k l n out) xs d f t) (sym (tasks-write k l n out xs d (g .sound) h)) (served-write k l n out xs d f t (g .sound) a h)
 served (Call.trim k l n) xs d f t g a h = record { agrees = agrees-trim k l n d f t a (h .range .inside); marks = refl; allowed = tt }
@@ -130,7 +131,7 @@ world d f t = record { state = wordsOf d; flash = f; programmed = d .fills; tabl
 
 -- a step, given the call's outcome
 unfoldable opsBy : Ask → Head → Outcome Lent → List Op
-opsBy a h o = cond (eqb (o .refusal) 0) (listed (a .request) (a .contents) h o) []
+opsBy a h o = cond (eqb (o .refusal) 0) (toDo (a .request) (a .contents) h o) []
 
 unfoldable stepBy : Ask → World → Outcome Lent → World
 stepBy a w o =
@@ -180,7 +181,10 @@ read-one d g l h =
 -- what line l reads as is what the device and its flash show
 pub reads-contents : (d : Device) (f : List Cell) → Good d → (l : ℕ) → l < lines d → reads (wordsOf d) f l ≡ contents d f l
 unfolding reads contents
-reads-contents d f g l h = ap (λ (ws : List ℕ). see f (getD ws 1 none)) (read-one d g l h .1)
+reads-contents d f g l h =
+    let o = call (Call.read l 1 (replicate 3 0)) (wordsOf d) in
+    let r = read-one d g l h in
+    rw (eq-eqb (o .refusal) 0 (r .0)) (ap (λ (ws : List ℕ). see f (getD ws 1 none)) (r .1))
 
 module _ (a : Ask) (d : Device) (f : List Cell) (t : List Seen) (g : Good d) where
   step-taken : Agrees d f t → refusal (a .request) d ≡ 0

@@ -6,17 +6,13 @@ use Rattle.rules.specs.Lent.{Lent}
 use Rattle.rules.specs.Shape.{shaped}
 use Rattle.rules.specs.Sound.{sound}
 use Rattle.rules.specs.Device.{Device, deviceOf, wordsOf}
-use Rattle.rules.specs.Answers.{Outcome, number, refuse}
-use Rattle.rules.specs.Calls.{Call, refusal, counts, leaves, lists, buffer, over, refused, accepted, plain, verdict, acceptedOn, call}
+use Rattle.rules.specs.Answers.{number, refuse}
+use Rattle.rules.specs.Calls.{Call, refusal, counts, leaves, lists, buffer, over, refused, accepted, plain, encoded, verdict, acceptedOn, call}
 use Rattle.rules.specs.declared.Refusal.{Refusal}
 use lib.Dec.{eqb}
 use Rattle.laws.specs.Bools.{cases}
 use Rattle.laws.specs.Sane.{Good}
 use Rattle.laws.specs.States.{words-device, good-shaped, good-sound, sound-iff}
-
--- an outcome with its device as words
-unfoldable pub encoded : Outcome Device → Outcome Lent
-encoded o = record { refusal = o .refusal; counts = o .counts; after = wordsOf (o .after); out = o .out }
 
 module _ (c : Call) (d : Device) (g : Good d) where
   pub verdict-words : verdict c (wordsOf d) ≡ refusal c d

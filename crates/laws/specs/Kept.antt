@@ -24,7 +24,7 @@ use Rattle.laws.specs.Bools.{or-split}
 use Rattle.laws.specs.Device.{Sound}
 use Rattle.laws.specs.Placed.{puts-pages, puts-slots, puts-all}
 use Rattle.laws.specs.Lines.{written-sound, trimmed-lines, trimmed-sound}
-use Rattle.laws.specs.Reclaimed.{few-sources, victim-chosen, reclaim-all}
+use Rattle.laws.specs.Reclaimed.{reclaim-all}
 use Rattle.laws.specs.Encoded.{reclaim-shrinks}
 use Rattle.laws.specs.Balance.{balance′}
 use Rattle.laws.specs.States.{device-blocks, good-shaped, good-sound, sound-iff}
@@ -206,15 +206,13 @@ keeps (Call.reclaim out) d g e =
     }
 keeps Call.report d g e = g
 
--- a reclaim is refused only where nothing is stale or the answer is too short for a block
-pub reclaim-passes : (out : List ℕ) (d : Device) → Good d → 0 < stale d → d .pages ≤ length out → ReclaimTaken out d
-reclaim-passes out d g h r =
-    let c = victim-chosen d (g .sound) h in
-    record {
-      gains = h;
-      nodes = omega (arith, reclaim-shrinks d (g .sound) h, reclaim-all d (g .sound) h .slots, g .few);
-      room = omega (arith, few-sources d (g .sound) (victim d) (c .inside) (c .other));
-    }
+-- a reclaim is refused only where nothing is stale or the answer buffer is too short
+pub reclaim-passes : (out : List ℕ) (d : Device) → Good d → 0 < stale d → length (sources (victim d) d) ≤ length out → ReclaimTaken out d
+reclaim-passes out d g h r = record {
+  gains = h;
+  nodes = omega (arith, reclaim-shrinks d (g .sound) h, reclaim-all d (g .sound) h .slots, g .few);
+  room = r;
+}
 
 -- ---- on lent words
 
@@ -231,7 +229,7 @@ module _ (s : Lent) (z : shaped s ≡ true) (e : sound s ≡ true) where
   unfolding deviceOf
   three-counts = balance′ (deviceOf s) (device-good .sound) ∙ ap (λ (b : ℕ). (b - 1) * s .head .pages) (device-blocks s)
 
-call-verdict : (c : Call) (s : Lent) → call c s .refusal ≡ verdict c s
+pub call-verdict : (c : Call) (s : Lent) → call c s .refusal ≡ verdict c s
 unfolding call acceptedOn refused
 call-verdict c s =
     by-cases (ℕ-discrete (verdict c s) 0)
@@ -260,21 +258,6 @@ accepted-sound c s e =
     let d = leaves c (deviceOf s) in
     let g : Good d = keeps c (deviceOf s) (device-good s (a .shape) (a .whole)) (a .plainly) in
     (ap shaped (a .after) ∙ good-shaped d g, ap sound (a .after) ∙ good-sound d g)
-
--- a refused call leaves every word and the head
-pub record Untouched (c : Call) (s : Lent) (o : Outcome Lent) : Type 0 where
-  pub after : o .after ≡ s
-  pub out : o .out ≡ buffer c
-  pub counts : o .counts ≡ zeros c
-
-untouched : (c : Call) (s : Lent) (b : Bool) → (cond b (acceptedOn c s) (refused (verdict c s) c s) .refusal ≡ 0 → ⊥) → Untouched c s (cond b (acceptedOn c s) (refused (verdict c s) c s))
-unfolding acceptedOn refused
-untouched c s true h = absurd (h refl)
-untouched c s false h = record { after = refl; out = refl; counts = refl }
-
-pub refused-untouched : (c : Call) (s : Lent) → (call c s .refusal ≡ 0 → ⊥) → Untouched c s (call c s)
-unfolding call
-refused-untouched c s h = untouched c s (eqb (verdict c s) 0) h
 
 -- ---- each rule allows one outcome: that of `call` for the five calls on a lent state, that of `fresh` for the sixth
 

@@ -1,5 +1,5 @@
 -- Laws of sums and counts over the numbers below a bound.
-use Prim.Native.Nat.{ℕ, zero, suc, _+_, _*_, _≤_, _<_}
+use Prim.Native.Nat.{ℕ, zero, suc, _+_, _-_, _*_, _≤_, _<_}
 use mathlib.Core.Path.{_≡_, refl, sym, ap, _∙_}
 use mathlib.Core.Bool.{Bool, true, false, not, cond}
 use mathlib.Core.Logic.{by-cases}
@@ -142,3 +142,24 @@ pub each-all : (n : ℕ) (t : ℕ → Bool) → ((i : ℕ) → i < n → t i ≡
 unfolding all
 each-all zero t h = refl
 each-all (suc n) t h = and-join _ _ (each-all n t (λ i s. h i (omega arith))) (h n (omega arith))
+
+pub count-append : (a b : ℕ) (t : ℕ → Bool) → count (a + b) t ≡ count a t + count b (λ i. t (a + i))
+unfolding count
+count-append a zero t = let e : a + 0 ≡ a = omega arith in ap (λ (x : ℕ). count x t) e ∙ omega arith
+count-append a (suc b) t = let e : a + suc b ≡ suc (a + b) = omega arith in ap (λ (x : ℕ). count x t) e ∙ omega (arith, count-append a b t)
+
+-- tests that differ only from l up to l + n: the counts differ by what they differ by there
+pub count-within : (m l n : ℕ) (s t : ℕ → Bool) → l + n ≤ m → ((j : ℕ) → (l ≤ j → j < l + n → ⊥) → s j ≡ t j)
+    → count m s + count n (λ i. t (l + i)) ≡ count m t + count n (λ i. s (l + i))
+count-within m l n s t h f =
+    let k = m - (l + n) in
+    let e : m ≡ l + n + k = omega arith in
+    omega (
+      arith,
+      ap (λ (x : ℕ). count x s) e ∙ count-append (l + n) k s,
+      count-append l n s,
+      ap (λ (x : ℕ). count x t) e ∙ count-append (l + n) k t,
+      count-append l n t,
+      count-same l s t (λ j a. f j (λ p q. omega arith)),
+      count-same k (λ i. s (l + n + i)) (λ i. t (l + n + i)) (λ i a. f (l + n + i) (λ p q. omega arith)),
+    )

@@ -131,6 +131,10 @@ plain c d = cond (eqb (refusal c d) 0) (accepted c d) (refused (refusal c d) c d
 
 -- ---- on lent words
 
+-- an outcome on a plain device, its device as words
+unfoldable pub encoded : Outcome Device → Outcome Lent
+encoded o = record { refusal = o .refusal; counts = o .counts; after = wordsOf (o .after); out = o .out }
+
 -- 1, then 2, then what the plain device gives
 unfoldable pub verdict : Call → Lent → ℕ
 verdict c s = refuse (not (shaped s)) Refusal.Shape (refuse (not (sound s)) Refusal.Damaged (refusal c (deviceOf s)))

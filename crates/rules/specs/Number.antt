@@ -2,13 +2,13 @@
 use Prim.Native.Nat.{ℕ}
 use mathlib.Core.Bool.{Bool}
 use mathlib.Core.List.{List}
-use lib.Dec.{leb}
+use lib.Dec.{leb, eqb}
 use lib.ListN.{replicate}
 use lib.Seq.{sets}
 use Rattle.rules.specs.Extents.{none}
 use Rattle.rules.specs.Device.{Device}
 use Rattle.rules.specs.Placement.{puts}
-use Rattle.rules.specs.Answers.{refuse}
+use Rattle.rules.specs.Answers.{number, refuse}
 use Rattle.rules.specs.declared.Refusal.{Refusal}
 
 -- 01, Refusals, 4: number not above the last number
@@ -18,6 +18,10 @@ applied number d = leb number (d .last)
 -- the test of a number: 4 where it applies, what the later tests give where it does not
 unfoldable pub judged : ℕ → Device → ℕ → ℕ
 judged number d later = refuse (applied number d) Refusal.Applied later
+
+-- the refusals that a write or trim in range gets for a number that is used up: one that is not above an accepted one
+unfoldable pub usedUp : ℕ → Bool
+usedUp r = eqb r (number Refusal.Applied)
 
 -- an accepted write or trim sets the last number to its own
 unfoldable pub withTable : List ℕ → ℕ → Device → Device

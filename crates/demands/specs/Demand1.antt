@@ -1,0 +1,83 @@
+-- Demand 1. Any request on any lent state gets an answer. Bad shapes, damaged state, bad ranges, a request already applied, and want of pages, extent
+-- slots, answer room or stale pages are refused by number, exactly when the rules say, and a refusal changes nothing lent.
+-- This is the statement; `demand-1` (Proved) proves it.
+use Prim.Native.Nat.{ℕ, _+_}
+use mathlib.Core.Bool.{Bool, true, false, not, cond, _&&_, _||_}
+use mathlib.Core.Path.{_≡_}
+use mathlib.Core.List.{List, [], _∷_}
+use lib.Dec.{eqb, ltb, leb}
+use lib.ListN.{length, drop}
+use Rattle.rules.specs.Lent.{Lent, lent}
+use Rattle.rules.specs.Shape.{sizes, lengths, shaped}
+use Rattle.rules.specs.Sound.{sound}
+use Rattle.rules.specs.Device.{free, stale, extents, deviceOf, wordsOf}
+use Rattle.rules.specs.Answers.{Outcome, number}
+use Rattle.rules.specs.Calls.{Call, leaves, lists, buffer, zeros, acceptedOn, call, freshDevice, sizesOnly, fresh}
+use Rattle.rules.specs.declared.Refusal.{Refusal}
+use Rattle.demands.specs.Requests.{isWrite, numberOf, startOf, countOf}
+
+-- ---- 01, Refusals: the table
+
+-- its columns "no." and "calls": the refusals of a call, in the order in which they are checked; reclaim checks 8 directly after 2
+abbrev pub order : Call → List Refusal
+order (Call.write k l n out) = Refusal.Shape ∷ Refusal.Damaged ∷ Refusal.Range ∷ Refusal.Applied ∷ Refusal.NoPages ∷ Refusal.NoNodes ∷ Refusal.OutShort ∷ []
+order (Call.trim k l n) = Refusal.Shape ∷ Refusal.Damaged ∷ Refusal.Range ∷ Refusal.Applied ∷ Refusal.NoNodes ∷ []
+order (Call.read l n out) = Refusal.Shape ∷ Refusal.Damaged ∷ Refusal.Range ∷ Refusal.OutShort ∷ []
+order (Call.reclaim out) = Refusal.Shape ∷ Refusal.Damaged ∷ Refusal.NothingStale ∷ Refusal.NoNodes ∷ Refusal.OutShort ∷ []
+order Call.report = Refusal.Shape ∷ Refusal.Damaged ∷ []
+
+-- its column "given when", of a call c on a lent state s
+abbrev pub given : Call → Lent → Refusal → Bool
+-- a size or a state buffer length breaks the numbers
+given c s Refusal.Shape = not (shaped s)
+-- the state isn't sound
+given c s Refusal.Damaged = not (sound s)
+-- n = 0, l + n > L as whole numbers, or a write with n > N
+given c s Refusal.Range = eqb (countOf c) 0 || ltb (s .head .logical) (startOf c + countOf c) || (isWrite c && ltb (s .head .pages) (countOf c))
+-- number not above the last number
+given c s Refusal.Applied = leb (numberOf c) (s .head .last)
+-- n > free
+given c s Refusal.NoPages = ltb (free (deviceOf s)) (countOf c)
+-- the map afterwards, joined, has more than M extents
+given c s Refusal.NoNodes = ltb (s .head .slots) (length (extents (leaves c (deviceOf s))))
+-- answer buffer shorter than the answer: 3 words a piece, or 1 a copied page
+given c s Refusal.OutShort = ltb (length (buffer c)) (length (lists c (deviceOf s)))
+-- no page is stale
+given c s Refusal.NothingStale = eqb (stale (deviceOf s)) 0
+
+-- the first that applies is given, by its number, and none otherwise: 0
+unfoldable pub firstOf : List Refusal → (Refusal → Bool) → ℕ
+firstOf [] applies = 0
+firstOf (r ∷ rs) applies = cond (applies r) (number r) (firstOf rs applies)
+
+-- ---- a call on a lent state
+
+-- what is lent, and every count, when a call is refused: the head and every word of the state as given, the answer buffer too, and zeros
+pub record Untouched (c : Call) (s : Lent) (o : Outcome Lent) : Type 0 where
+  pub after : o .after ≡ s
+  pub out : o .out ≡ buffer c
+  pub counts : o .counts ≡ zeros c
+
+-- outcome o answers call c on state s
+pub record Answers (c : Call) (s : Lent) (o : Outcome Lent) : Type 0 where
+  pub refusal : o .refusal ≡ firstOf (order c) (given c s)
+  pub refused : (o .refusal ≡ 0 → ⊥) → Untouched c s o
+  -- accepted: counts, state and answer are those of the plain device of s
+  pub accepted : o .refusal ≡ 0 → o ≡ acceptedOn c s
+  -- an answer overwrites only the words it needs
+  pub rest : o .refusal ≡ 0 → drop (length (lists c (deviceOf s))) (o .out) ≡ drop (length (lists c (deviceOf s))) (buffer c)
+
+-- ---- fresh, which is given B, N, L and M alone, and words that hold anything
+
+pub record FreshAnswers (b n l m : ℕ) (extents blocks spare : List ℕ) (o : Outcome Lent) : Type 0 where
+  pub refusal : o .refusal ≡ cond (sizes b n l m && lengths b n m (length extents) (length blocks) (length spare)) 0 (number Refusal.Shape)
+  -- refused, its head holds the four sizes as given and zero elsewhere, and no word changes
+  pub refused : (o .refusal ≡ 0 → ⊥) → o .after ≡ lent (sizesOnly b n l m) extents blocks spare
+  pub accepted : o .refusal ≡ 0 → o .after ≡ wordsOf (freshDevice b n l m)
+  -- it counts nothing and lists nothing
+  pub counts : o .counts ≡ []
+  pub out : o .out ≡ []
+
+pub record Demand1 : Type 0 where
+  pub calls : (c : Call) (s : Lent) → Answers c s (call c s)
+  pub freshes : (b n l m : ℕ) (extents blocks spare : List ℕ) → FreshAnswers b n l m extents blocks spare (fresh b n l m extents blocks spare)

@@ -1,0 +1,60 @@
+-- The demands and the double refund as theorems. Each statement is a record of the file that has its name; the proofs are in the files below.
+use Prim.Native.Nat.{ℕ, _*_, _-_, _≤_}
+use mathlib.Core.Bool.{true}
+use mathlib.Core.Path.{_≡_, sym, ap, _∙_, subst}
+use mathlib.Core.List.{List}
+use native.Mathlib.Omega.{arith}
+use lib.ListN.{length}
+use Rattle.rules.specs.Lent.{Lent}
+use Rattle.rules.specs.Shape.{shaped}
+use Rattle.rules.specs.Sound.{sound}
+use Rattle.rules.specs.Device.{Device, deviceOf, wordsOf}
+use Rattle.rules.specs.Calls.{Call, call, freshDevice, fresh}
+use Rattle.laws.specs.States.{words-device}
+use Rattle.demands.specs.Flash.{Cell}
+use Rattle.demands.specs.Host.{Ask, World, run, ErasedFromFill, begin}
+use Rattle.demands.specs.Demand1.{Demand1}
+use Rattle.demands.specs.Demand2.{Demand2, beginFresh}
+use Rattle.demands.specs.Demand3.{Asked, until, Settles, Demand3}
+use Rattle.demands.specs.Once.{AppliedOnce}
+use Rattle.demands.specs.Refusals.{answers, fresh-answers}
+use Rattle.demands.specs.Starts.{begin-holds, fresh-good, fresh-holds, fresh-leaves}
+use Rattle.demands.specs.Histories.{holds-demand}
+use Rattle.demands.specs.Settling.{settles, wide-enough, write-enough}
+use Rattle.demands.specs.Repeats.{begins-once}
+
+-- every request on every lent state
+pub demand-1 : Demand1
+demand-1 = record { calls = answers; freshes = fresh-answers }
+
+-- from an accepted fresh, whatever words were lent to it, on erased flash
+pub demand-2 : (b n l m : ℕ) (extents blocks spare : List ℕ) → fresh b n l m extents blocks spare .refusal ≡ 0 → (asks : List Ask)
+    → Demand2 (beginFresh (fresh b n l m extents blocks spare .after)) (freshDevice b n l m) asks
+unfolding beginFresh
+demand-2 b n l m es bs ss e asks =
+    let p = fresh-leaves b n l m es bs ss e in
+    let d = freshDevice b n l m in
+    subst (λ (s : Lent). Demand2 (beginFresh s) d asks) (sym (p .1))
+    (subst (λ (x : Device). Demand2 (beginFresh (wordsOf d)) x asks) (words-device d (fresh-good b n l m (p .0)))
+    (holds-demand l (beginFresh (wordsOf d)) (fresh-holds b n l m (p .0)) asks))
+
+-- the same from any sound state, on flash that is erased from each block's fill on
+pub demand-2-from : (s : Lent) → shaped s ≡ true → sound s ≡ true → (f : List Cell) → ErasedFromFill s f → (asks : List Ask) → Demand2 (begin s f) (deviceOf s) asks
+unfolding begin
+demand-2-from s z e f c asks = holds-demand (s .head .logical) (begin s f) (begin-holds s z e f c) asks
+
+-- from any sound state
+pub demand-3 : (s : Lent) → shaped s ≡ true → sound s ≡ true → Demand3 s
+demand-3 = settles
+
+-- sizes that suffice: N words for each reclaim, three words for each page of the write
+pub demand-3-sizes : (s : Lent) → shaped s ≡ true → sound s ≡ true → (f : List Cell) (k l n : ℕ) (out : List ℕ) (outs : ℕ → List ℕ) (limit : ℕ)
+    → Asked (s .head) k l n → s .head .blocks - 1 ≤ limit → ((i : ℕ) → s .head .pages ≤ length (outs i)) → 3 * n ≤ length out
+    → Settles s f limit outs (Call.write k l n out) × (call (Call.write k l n out) (until limit outs (begin s f) .state) .refusal ≡ 0)
+demand-3-sizes s z e f k l n out outs limit a h r m =
+    let x = demand-3 s z e f k l n out outs limit a h (wide-enough s z e f limit outs r) in
+    (x, x .accepted (write-enough k l n out (until limit outs (begin s f) .state) m))
+
+-- from any sound state, on any flash, after any requests
+pub applied-once : (s : Lent) → shaped s ≡ true → sound s ≡ true → (f : List Cell) (before : List Ask) → AppliedOnce (run before (begin s f))
+applied-once = begins-once
