@@ -19,3 +19,4 @@ pub mod Histories
 pub mod Settling
 pub mod Repeats
 pub mod Proved
+pub mod Witnesses

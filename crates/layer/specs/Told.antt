@@ -1,4 +1,4 @@
--- A contract of the layer allows one result: any two answers that say what the rule says, with the words as the rule leaves them, are equal.
+-- What an answer says tells it apart: two answers that say the same are equal.
 use Prim.Native.Nat.{ℕ}
 use mathlib.Core.Bool.{cond}
 use mathlib.Core.Path.{_≡_, refl, sym, ap, _∙_}
@@ -6,8 +6,7 @@ use mathlib.Core.List.{List, [], _∷_}
 use native.Mathlib.Omega.{arith}
 use lib.Dec.{eqb}
 use lib.ListN.{getD}
-use Rattle.rules.specs.Lent.{Lent}
-use Rattle.rules.specs.Answers.{number, Outcome, Said, done, listed, counted, outcome}
+use Rattle.rules.specs.Answers.{number, Said, done, listed, counted}
 use Rattle.rules.specs.declared.Head.{Head}
 use Rattle.rules.specs.declared.Refusal.{Refusal}
 use Rattle.rules.specs.declared.Done.{Done}
@@ -66,33 +65,3 @@ counted-one (Counted.Refused r h) (Counted.Accepted f l s g) e = absurd (number-
 counted-one (Counted.Refused r h) (Counted.Refused t g) e =
     let n = number-one r t (ap (λ (s : Said). s .refusal) e) in
     λ i. Counted.Refused (n i) (e i .head)
-
--- ---- the whole result: answer, every lent word, answer buffer
-
--- what an outcome says
-said-of : Outcome Lent → Said
-said-of o = record { refusal = o .refusal; counts = o .counts; head = o .after .head }
-
--- two answers a and b, of whichever kind, each with the words that were left
-pub record Same (A : Type 0) (a b : A) (x y : List (List ℕ)) : Type 0 where
-  pub answer : a ≡ b
-  pub words : x ≡ y
-
-module _ (rule : Outcome Lent) (x y z o x′ y′ z′ o′ : List ℕ) where
-  pub same : (s t : Said) → outcome s x y z o ≡ rule → outcome t x′ y′ z′ o′ ≡ rule → (s ≡ t) × (x ∷ y ∷ z ∷ o ∷ [] ≡ x′ ∷ y′ ∷ z′ ∷ o′ ∷ [])
-  unfolding said-of
-  same s t e f =
-      let g : outcome s x y z o ≡ outcome t x′ y′ z′ o′ = e ∙ sym f in
-      (ap said-of g, λ i. g i .after .extents ∷ g i .after .blocks ∷ g i .after .spare ∷ g i .out ∷ [])
-
-  -- fresh, trim
-  pub one-done : (a b : Done) → outcome (done a) x y z o ≡ rule → outcome (done b) x′ y′ z′ o′ ≡ rule → Same Done a b (x ∷ y ∷ z ∷ o ∷ []) (x′ ∷ y′ ∷ z′ ∷ o′ ∷ [])
-  one-done a b e f = let s = same (done a) (done b) e f in record { answer = done-one a b (s .0); words = s .1 }
-
-  -- write, read, reclaim
-  pub one-listed : (a b : Listed) → outcome (listed a) x y z o ≡ rule → outcome (listed b) x′ y′ z′ o′ ≡ rule → Same Listed a b (x ∷ y ∷ z ∷ o ∷ []) (x′ ∷ y′ ∷ z′ ∷ o′ ∷ [])
-  one-listed a b e f = let s = same (listed a) (listed b) e f in record { answer = listed-one a b (s .0); words = s .1 }
-
-  -- report
-  pub one-counted : (a b : Counted) → outcome (counted a) x y z o ≡ rule → outcome (counted b) x′ y′ z′ o′ ≡ rule → Same Counted a b (x ∷ y ∷ z ∷ o ∷ []) (x′ ∷ y′ ∷ z′ ∷ o′ ∷ [])
-  one-counted a b e f = let s = same (counted a) (counted b) e f in record { answer = counted-one a b (s .0); words = s .1 }

@@ -1,0 +1,121 @@
+-- The hypotheses of the theorems can be met, and what they speak of happens: by computing, on the device of P3 and on the smallest one.
+use Prim.Native.Nat.{ℕ, _+_, _*_, _≤_, _<_}
+use mathlib.Core.Bool.{Bool, true, false}
+use mathlib.Core.Path.{_≡_, refl}
+use mathlib.Core.List.{List, [], _∷_, _++_}
+use mathlib.Core.Logic.{inl}
+use native.Mathlib.Omega.{arith}
+use lib.ListN.{length, getD, take, drop, replicate}
+use Rattle.rules.specs.Counting.{sum, count, all, first, most, picks, tabulate, among}
+use Rattle.rules.specs.Extents.{lookup, joinable, join, runs, slots, flat}
+use Rattle.rules.specs.Blocks.{stride, records}
+use Rattle.rules.specs.Lent.{Lent, lent}
+use Rattle.rules.specs.Shape.{sizes, lengths, shape, shaped}
+use Rattle.rules.specs.Sound.{rule1, rule2, rule3, rule4, mappedIn, rule5, rule6, sound}
+use Rattle.rules.specs.Device.{mapped, named, valid, staleIn, stale, live, room, free, extents, tableOf, deviceOf, headOf, wordsOf}
+use Rattle.rules.specs.Placement.{putAt, putsAt, placesAt, target, targets, puts, places, pieces}
+use Rattle.rules.specs.Reclaim.{victim, sources, goes, copied, moved, reclaimedAt, reclaimed}
+use Rattle.rules.specs.Read.{hole, holes, found}
+use Rattle.rules.specs.Number.{applied, judged, withTable, numbered, written, trimmed}
+use Rattle.rules.specs.Answers.{refuse}
+use Rattle.rules.specs.Calls.{Call, outside, tooMany, writeRefusal, trimRefusal, readRefusal, reclaimRefusal, refusal, counts, leaves, lists, over, refused, verdict, acceptedOn, call, freshDevice, sizesOnly, fresh}
+use Rattle.laws.specs.Cells.{replicate-at}
+use Rattle.demands.specs.Flash.{Cell, erased, see}
+use Rattle.demands.specs.Host.{Ask, Op, programs, copies, toDo, ops, does, doing, marks, marking, shown, reads, World, step, run, ErasedFromFill, begin}
+use Rattle.demands.specs.Requests.{carries, numberOf}
+use Rattle.demands.specs.Demand2.{trace, beginFresh}
+use Rattle.demands.specs.Demand3.{Asked, LongEnough, staleOf, until, times, Way, Roomy}
+use Rattle.demands.specs.Once.{repeats, noted, once}
+
+-- ---- requests, with answer buffers of 48 words
+
+abbrev write : ℕ → ℕ → ℕ → List ℕ → Ask
+write k l n xs = record { request = Call.write k l n (replicate 48 0); contents = xs }
+
+abbrev reclaim : Ask
+reclaim = record { request = Call.reclaim (replicate 48 0); contents = [] }
+
+-- a fresh device of some sizes on erased flash, made in words that held something else
+abbrev started : ℕ → ℕ → ℕ → ℕ → World
+started b n l m = beginFresh (fresh b n l m (replicate (3 * m) 7) (replicate (stride * b) 7) (replicate (b * n) 7) .after)
+
+-- P3: a device with 8 extents in use, of which 2 pages are stale
+abbrev p3 : List Ask
+p3 = write 1 0 2 [] ∷ write 2 4 1 [] ∷ write 3 10 4 [] ∷ write 4 6 1 [] ∷ write 5 11 2 [] ∷ write 6 7 1 [] ∷ write 7 9 1 [] ∷ []
+
+abbrev sound3 : Lent
+sound3 = run p3 (started 4 16 32 16) .state
+
+abbrev blank : List Cell
+blank = replicate 64 erased
+
+-- buffers of 10 words for the reclaims
+abbrev tens : ℕ → List ℕ
+tens i = replicate 10 0
+
+-- P4: the last of them sent again, at once and after a reclaim; and two that were not sent before
+abbrev p4 : List Ask
+p4 = write 7 9 1 [] ∷ reclaim ∷ write 7 9 1 [] ∷ write 3 0 1 [] ∷ write 8 0 1 [] ∷ []
+
+-- each refusal, and none: no sizes; labels that are all 0; no page; number 0; P12's third write; a trim like P10's; no answer buffer; nothing stale
+abbrev small : Lent
+small = started 3 1 1 1 .state
+
+abbrev refusals : List ℕ
+refusals =
+    call Call.report (lent (sizesOnly 0 0 0 0) [] [] []) .refusal
+    ∷ call Call.report (lent (small .head) (small .extents) (small .blocks) (0 ∷ 0 ∷ 0 ∷ [])) .refusal
+    ∷ call (Call.write 1 0 0 []) small .refusal
+    ∷ call (Call.write 0 0 1 []) small .refusal
+    ∷ call (Call.write 3 0 1 []) (run (write 1 0 1 [] ∷ write 2 0 1 [] ∷ []) (started 3 1 1 1) .state) .refusal
+    ∷ call (Call.trim 2 1 1) (run (write 1 0 3 [] ∷ []) (started 3 3 3 1) .state) .refusal
+    ∷ call (Call.write 1 0 1 []) small .refusal
+    ∷ call (Call.reclaim []) small .refusal
+    ∷ call Call.report small .refusal ∷ []
+
+pub record Met : Type 0 where
+  -- demand 1: each refusal is given somewhere, and a call is accepted
+  pub given : refusals ≡ 1 ∷ 2 ∷ 3 ∷ 4 ∷ 5 ∷ 6 ∷ 7 ∷ 8 ∷ 0 ∷ []
+  -- demand 2: an accepted fresh on words that held something else, and a page that is programmed twice, its block erased in between
+  pub fresh-accepted : fresh 3 1 1 1 (replicate 3 7) (replicate (stride * 3) 7) (replicate 3 7) .refusal ≡ 0
+  pub page-again : trace (write 1 0 1 (10 ∷ []) ∷ write 2 0 1 (20 ∷ []) ∷ reclaim ∷ write 3 0 1 (30 ∷ []) ∷ reclaim ∷ write 4 0 1 (40 ∷ []) ∷ []) (started 3 1 1 1)
+      ≡ Op.program 0 10 ∷ Op.program 1 20 ∷ Op.erase 0 ∷ Op.program 2 30 ∷ Op.erase 1 ∷ Op.program 0 40 ∷ []
+  -- demands 2 and 3 and the double refund, from a sound state on flash that is erased from each fill on
+  pub is-shaped : shaped sound3 ≡ true
+  pub is-sound : sound sound3 ≡ true
+  pub is-erased : ErasedFromFill sound3 blank
+  -- demand 3: a write of 7 pages, since 8 + 7 + 1 extents fit in 16 slots; one reclaim is made, whose answer just fits, and so does the write's
+  pub asked : Asked (sound3 .head) 8 0 7
+  pub roomy : Way Roomy 3 tens (begin sound3 blank)
+  pub one-reclaim : times 3 tens (begin sound3 blank) ≡ 1
+  pub enough : LongEnough (Call.write 8 0 7 (replicate 3 0)) (until 3 tens (begin sound3 blank) .state)
+  -- the double refund: the last request of P3 is accepted; of P4's requests three repeat
+  pub accepted : call (Call.write 7 9 1 (replicate 48 0)) (run (take 6 p3) (started 4 16 32 16) .state) .refusal ≡ 0
+  pub repeated : once [] (drop 6 p3 ++ p4) (run (take 6 p3) (started 4 16 32 16)) ≡ write 7 9 1 [] ∷ reclaim ∷ write 8 0 1 [] ∷ []
+
+pub met : Met
+unfolding sum count all first most picks tabulate among
+    lookup joinable join runs slots flat records sizes lengths shape shaped
+    rule1 rule2 rule3 rule4 mappedIn rule5 rule6 sound
+    mapped named valid staleIn stale live room free extents tableOf deviceOf headOf wordsOf
+    putAt putsAt placesAt target targets puts places pieces
+    victim sources goes copied moved reclaimedAt reclaimed hole holes found
+    applied judged withTable numbered written trimmed refuse
+    outside tooMany writeRefusal trimRefusal readRefusal reclaimRefusal refusal counts leaves lists over refused
+    verdict acceptedOn call freshDevice sizesOnly fresh
+    programs copies toDo ops does doing marks marking shown reads see step run begin trace beginFresh
+    staleOf until times repeats noted once
+met = record {
+  given = refl;
+  fresh-accepted = refl;
+  page-again = refl;
+  is-shaped = refl;
+  is-sound = refl;
+  is-erased = record { whole = refl; blank = λ b o h k i. replicate-at Cell.erased 64 (b * 16 + o) };
+  asked = record { some = omega arith; block = omega arith; inside = omega arith; newer = omega arith; slots = inl (omega arith) };
+  roomy = λ y. (omega arith, λ z. absurd (z refl));
+  one-reclaim = refl;
+  enough = omega arith;
+  accepted = refl;
+  repeated = refl;
+}
