@@ -223,8 +223,7 @@ wide (suc k) outs w d e g r = λ y.
     let z : stale d ≡ 0 → ⊥ = λ q. y (ap staleOf e ∙ stale-words d g ∙ q) in
     let c = victim-chosen d (g .sound) (omega arith) in
     let few = few-sources d (g .sound) (victim d) (c .inside) (c .other) in
-    let long : LongEnough (Call.reclaim out) (wordsOf d) = rw (words-device d g) (omega (arith, r 0)) in
-    (
+    let long : LongEnough (Call.reclaim out) (wordsOf d) = rw (words-device d g) (omega (arith, r 0)) in (
       subst (LongEnough (Call.reclaim out)) (sym e) long,
       wide k (later outs) (step (reclaiming out) w) (reclaimed d) (step-reclaim out d g z long w e) (good-reclaim out d g z long)
           (λ i. omega (arith, r (suc i), reclaim-all d (g .sound) (omega arith) .pages)),

@@ -108,7 +108,6 @@ move-runs n z g eq t w s =
 unfoldable pub movesTo : ℕ → (ℕ → Bool) → ℕ → ℕ → ℕ → ℕ
 movesTo n live v r p = cond (eqb (p / n) v) (r * n + count (p % n) live) p
 
-
 count-along : (live : ℕ → Bool) (m i j : ℕ) → ((h : ℕ) → h < i → live (m + h) ≡ true) → j ≡ m + i → count j live ≡ count m live + i
 unfolding count
 count-along live m zero j h eq = let at : j ≡ m = omega arith in ap (λ (x : ℕ). count x live) at ∙ omega arith

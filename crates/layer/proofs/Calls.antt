@@ -8,7 +8,7 @@ use denote.Ref.{now}
 use denote.Triple.Clauses.{AtExit}
 use borrow.Fn.Kinds.{Dens, endedOf}
 use Rattle.rules.specs.Lent.{Lent, lent}
-use Rattle.rules.specs.Answers.{Said, done, listed, counted}
+use Rattle.rules.specs.Answers.{Outcome, done, listed, counted}
 use Rattle.rules.specs.Calls.{Call, call, fresh}
 use Rattle.rules.specs.declared.Done.{Done}
 use Rattle.rules.specs.declared.Listed.{Listed}
@@ -32,7 +32,7 @@ use Rattle.layer.proofs.report.Reads as report-contract
 
 -- blocks, pages, logical, slots, ext, blk, spare
 module _ (κs : Lfts 3) (a : Dens κs Fresh.ps) where
-  abbrev fresh-words : Words (AtExit (endedOf 3 Fresh.ps Fresh.r) κs)
+  abbrev pub fresh-words : Words (AtExit (endedOf 3 Fresh.ps Fresh.r) κs)
   fresh-words = record {
     extents = λ s. now (s .1 .1 .1 .1 .0);
     blocks = λ s. now (s .1 .1 .1 .1 .1 .0);
@@ -40,16 +40,22 @@ module _ (κs : Lfts 3) (a : Dens κs Fresh.ps) where
     answer = λ s. [];
   }
 
-  pub fresh-promises : Promises (fresh-contract.Asked κs a) (fresh-contract.Post κs a) done fresh-words
-      (FreshAnswers (a .0) (a .1 .0) (a .1 .1 .0) (a .1 .1 .1 .0) (now (a .1 .1 .1 .1 .0)) (now (a .1 .1 .1 .1 .1 .0)) (now (a .1 .1 .1 .1 .1 .1 .0)))
+  abbrev pub FreshRight : Outcome Lent → Type 0
+  FreshRight = FreshAnswers (a .0) (a .1 .0) (a .1 .1 .0) (a .1 .1 .1 .0) (now (a .1 .1 .1 .1 .0)) (now (a .1 .1 .1 .1 .1 .0)) (now (a .1 .1 .1 .1 .1 .1 .0))
+
+  abbrev pub freshly : Outcome Lent
+  freshly = fresh (a .0) (a .1 .0) (a .1 .1 .0) (a .1 .1 .1 .0) (now (a .1 .1 .1 .1 .0)) (now (a .1 .1 .1 .1 .1 .0)) (now (a .1 .1 .1 .1 .1 .1 .0))
+
+  pub fresh-right : FreshRight freshly
+  fresh-right = demand-1 .freshes (a .0) (a .1 .0) (a .1 .1 .0) (a .1 .1 .1 .0) (now (a .1 .1 .1 .1 .0)) (now (a .1 .1 .1 .1 .1 .0)) (now (a .1 .1 .1 .1 .1 .1 .0))
+
+  pub fresh-promises : Promises (fresh-contract.Asked κs a) (fresh-contract.Post κs a) done fresh-words FreshRight
   fresh-promises =
-      by-rule (fresh-contract.Post κs a) done fresh-words _ _
-      (demand-1 .freshes (a .0) (a .1 .0) (a .1 .1 .0) (a .1 .1 .1 .0) (now (a .1 .1 .1 .1 .0)) (now (a .1 .1 .1 .1 .1 .0)) (now (a .1 .1 .1 .1 .1 .1 .0)))
-      (λ r s p. p) (λ r r′ s s′ p q. done-one r r′)
+      by-rule (fresh-contract.Post κs a) done fresh-words FreshRight freshly fresh-right (λ r s p. p) (λ r r′ s s′ p q. done-one r r′)
 
 -- h, ext, blk, spare, number, l, n, out
 module _ (κs : Lfts 4) (a : Dens κs Write.ps) where
-  abbrev write-words : Words (AtExit (endedOf 4 Write.ps Write.r) κs)
+  abbrev pub write-words : Words (AtExit (endedOf 4 Write.ps Write.r) κs)
   write-words = record {
     extents = λ s. now (s .1 .0);
     blocks = λ s. now (s .1 .1 .0);
@@ -57,10 +63,10 @@ module _ (κs : Lfts 4) (a : Dens κs Write.ps) where
     answer = λ s. now (s .1 .1 .1 .1 .1 .1 .1 .0);
   }
 
-  abbrev writes : Call
+  abbrev pub writes : Call
   writes = Call.write (a .1 .1 .1 .1 .0) (a .1 .1 .1 .1 .1 .0) (a .1 .1 .1 .1 .1 .1 .0) (now (a .1 .1 .1 .1 .1 .1 .1 .0))
 
-  abbrev writes-to : Lent
+  abbrev pub writes-to : Lent
   writes-to = lent (a .0) (now (a .1 .0)) (now (a .1 .1 .0)) (now (a .1 .1 .1 .0))
 
   pub write-promises : Promises (write-contract.Asked κs a) (write-contract.Post κs a) listed write-words (Answers writes writes-to)
@@ -70,13 +76,13 @@ module _ (κs : Lfts 4) (a : Dens κs Write.ps) where
 
 -- h, ext, blk, spare, number, l, n; spare is only read
 module _ (κs : Lfts 3) (a : Dens κs Trim.ps) where
-  abbrev trim-words : Words (AtExit (endedOf 3 Trim.ps Trim.r) κs)
+  abbrev pub trim-words : Words (AtExit (endedOf 3 Trim.ps Trim.r) κs)
   trim-words = record { extents = λ s. now (s .1 .0); blocks = λ s. now (s .1 .1 .0); spare = λ s. now (a .1 .1 .1 .0); answer = λ s. [] }
 
-  abbrev trims : Call
+  abbrev pub trims : Call
   trims = Call.trim (a .1 .1 .1 .1 .0) (a .1 .1 .1 .1 .1 .0) (a .1 .1 .1 .1 .1 .1 .0)
 
-  abbrev trims-to : Lent
+  abbrev pub trims-to : Lent
   trims-to = lent (a .0) (now (a .1 .0)) (now (a .1 .1 .0)) (now (a .1 .1 .1 .0))
 
   pub trim-promises : Promises (trim-contract.Asked κs a) (trim-contract.Post κs a) done trim-words (Answers trims trims-to)
@@ -86,7 +92,7 @@ module _ (κs : Lfts 3) (a : Dens κs Trim.ps) where
 
 -- h, ext, blk, spare, l, n, out; the state is only read
 module _ (κs : Lfts 4) (a : Dens κs Read.ps) where
-  abbrev read-words : Words (AtExit (endedOf 4 Read.ps Read.r) κs)
+  abbrev pub read-words : Words (AtExit (endedOf 4 Read.ps Read.r) κs)
   read-words = record {
     extents = λ s. now (a .1 .0);
     blocks = λ s. now (a .1 .1 .0);
@@ -94,10 +100,10 @@ module _ (κs : Lfts 4) (a : Dens κs Read.ps) where
     answer = λ s. now (s .1 .1 .1 .1 .1 .1 .0);
   }
 
-  abbrev reads : Call
+  abbrev pub reads : Call
   reads = Call.read (a .1 .1 .1 .1 .0) (a .1 .1 .1 .1 .1 .0) (now (a .1 .1 .1 .1 .1 .1 .0))
 
-  abbrev reads-from : Lent
+  abbrev pub reads-from : Lent
   reads-from = lent (a .0) (now (a .1 .0)) (now (a .1 .1 .0)) (now (a .1 .1 .1 .0))
 
   pub read-promises : Promises (read-contract.Asked κs a) (read-contract.Post κs a) listed read-words (Answers reads reads-from)
@@ -107,7 +113,7 @@ module _ (κs : Lfts 4) (a : Dens κs Read.ps) where
 
 -- h, ext, blk, spare, out
 module _ (κs : Lfts 4) (a : Dens κs Reclaim.ps) where
-  abbrev reclaim-words : Words (AtExit (endedOf 4 Reclaim.ps Reclaim.r) κs)
+  abbrev pub reclaim-words : Words (AtExit (endedOf 4 Reclaim.ps Reclaim.r) κs)
   reclaim-words = record {
     extents = λ s. now (s .1 .0);
     blocks = λ s. now (s .1 .1 .0);
@@ -115,10 +121,10 @@ module _ (κs : Lfts 4) (a : Dens κs Reclaim.ps) where
     answer = λ s. now (s .1 .1 .1 .1 .0);
   }
 
-  abbrev reclaims : Call
+  abbrev pub reclaims : Call
   reclaims = Call.reclaim (now (a .1 .1 .1 .1 .0))
 
-  abbrev reclaims-in : Lent
+  abbrev pub reclaims-in : Lent
   reclaims-in = lent (a .0) (now (a .1 .0)) (now (a .1 .1 .0)) (now (a .1 .1 .1 .0))
 
   pub reclaim-promises : Promises (reclaim-contract.Asked κs a) (reclaim-contract.Post κs a) listed reclaim-words (Answers reclaims reclaims-in)
@@ -128,10 +134,10 @@ module _ (κs : Lfts 4) (a : Dens κs Reclaim.ps) where
 
 -- h, ext, blk, spare; the state is only read
 module _ (κs : Lfts 3) (a : Dens κs Report.ps) where
-  abbrev report-words : Words (AtExit (endedOf 3 Report.ps Report.r) κs)
+  abbrev pub report-words : Words (AtExit (endedOf 3 Report.ps Report.r) κs)
   report-words = record { extents = λ s. now (a .1 .0); blocks = λ s. now (a .1 .1 .0); spare = λ s. now (a .1 .1 .1 .0); answer = λ s. [] }
 
-  abbrev reports-on : Lent
+  abbrev pub reports-on : Lent
   reports-on = lent (a .0) (now (a .1 .0)) (now (a .1 .1 .0)) (now (a .1 .1 .1 .0))
 
   pub report-promises : Promises (report-contract.Asked κs a) (report-contract.Post κs a) counted report-words (Answers Call.report reports-on)
