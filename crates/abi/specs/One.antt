@@ -37,7 +37,7 @@ module _ (rule : Outcomes Lent) (x y z o x′ y′ z′ o′ : List ℕ) where
       let s = same rule x y z o x′ y′ z′ o′ (ofDone a) (ofDone b) (e .0) (f .0) in
       record { answer = done-one a b (s .0) (e .1 ∙ sym (f .1)); words = s .1 }
 
-  -- write, read, reclaim
+  -- write, read, read over records, reclaim
   pub one-listed : (a b : Outcome) → outcome (ofListed a) x y z o ≡ rule → outcome (ofListed b) x′ y′ z′ o′ ≡ rule
       → Same Outcome a b (x ∷ y ∷ z ∷ o ∷ []) (x′ ∷ y′ ∷ z′ ∷ o′ ∷ [])
   one-listed a b e f = let s = same rule x y z o x′ y′ z′ o′ (ofListed a) (ofListed b) e f in record { answer = listed-one a b (s .0); words = s .1 }

@@ -1,5 +1,6 @@
-// What C and Rust call: each call of the layer under its name in include/utasiro.h, with its answer as a struct by value. The promises are the
-// layer's, through what a struct says.
+// What C and Rust call: each call of the layer, and the read over records, under its name in include/utasiro.h, with its answer as a struct
+// by value. The promises are theirs, through what a struct says. The borrow checker does not cover a function over `&[Extent]`, so
+// `utasiro_read_records` is proved by hand, and does nothing but hand on.
 use rules::Counted;
 use rules::Done;
 use rules::Extent;
@@ -157,7 +158,8 @@ pub extern "C" fn utasiro_read_records(
     n: u32,
     out: &mut [u32],
 ) -> Outcome
-    ensures { λ r. ⌜ outcome (ofListed r) (flat (now (recs .entry))) (now (blk .entry)) (now (spare .entry)) (now (out .exit)) ≡ call (Call.read l n (now (out .entry))) (lent h (flat (now (recs .entry))) (now (blk .entry)) (now (spare .entry))) ⌝ }
+    ensures { λ r. ⌜ outcome (ofListed r) (flat (now (recs .entry))) (now (blk .entry)) (now (spare .entry)) (now (out .exit))
+        ≡ call (Call.read l n (now (out .entry))) (lent h (flat (now (recs .entry))) (now (blk .entry)) (now (spare .entry))) ⌝ }
 {
     of_listed(records::read_records(h, recs, blk, spare, l, n, out))
 }
