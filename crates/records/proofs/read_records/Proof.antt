@@ -44,10 +44,8 @@ use denote.Triple.Entry.{Args}
 use denote.Triple.Spec.{Meets, tripleOf}
 use denote.Triple.Table.{entered, cited}
 use denote.Triple.Walked.{says}
-use Rattle.rules.specs.Answers.{listed, outcome}
-use Rattle.rules.specs.Calls.{Call, call}
+use Rattle.rules.specs.Answers.{listed}
 use Rattle.rules.specs.Extents.{flat}
-use Rattle.rules.specs.Lent.{lent}
 use Rattle.rules.specs.declared.Extent.{Extent}
 use Rattle.rules.specs.declared.Listed.{Listed}
 use Rattle.records.specs.Laid.{laid, First}
@@ -57,7 +55,7 @@ use Rattle.rules.proofs.Head as Hd
 use Rattle.rules.proofs.Head.Laws as Hd′
 use Rattle.rules.proofs.Listed as An
 use Rattle.rules.proofs.Listed.Laws as An′
-use Rattle.records.proofs.Asked.{Asked, Behind, spelled, told, at, typed}
+use Rattle.records.proofs.Asked.{Asked, Behind, spelled, told, at, Reads, typed}
 use Rattle.records.proofs.Direct.{Own, Tokens, Walk, ends, meets, calls}
 use Rattle.records.proofs.Locals.{var, freed}
 use Rattle.records.proofs.Scratch.{zeros, zeros-length, zeros-typed, array-in, array-out, lends-words, shares-words, Lying, Shared, big, use4}
@@ -105,20 +103,12 @@ module _ {M : Type 1} (𝓤 : URA M) (H : Heap 𝓤) (A : Atoms 𝓤) (mem : Mem
     abbrev recs : RefT (List Extent)
     recs = a .1 .0
 
-    -- read over the words ext, the answer is r, and leaves vs in `out`
-    abbrev Reads : Listed → List ℕ → List ℕ → Type 0
-    Reads r vs ext =
-        let blk = a .1 .1 .0 .now in
-        let spare = a .1 .1 .1 .0 .now in
-        let asked = Call.read (a .1 .1 .1 .1 .0) (a .1 .1 .1 .1 .1 .0) (a .1 .1 .1 .1 .1 .1 .0 .now) in
-        outcome (listed r) ext blk spare vs ≡ call asked (lent (a .0) ext blk spare)
-
     -- what `read_words` says of the words us, its answer and the last list
     abbrev Answered : List ℕ → Listed → List ℕ → Type 0
-    Answered us r vs = (ext : List ℕ) → First us (length (recs .now)) ext → Reads r vs ext
+    Answered us r vs = (ext : List ℕ) → First us (length (recs .now)) ext → Reads κs a ext (listed r) vs
 
     -- what the two contracts say together
-    together : (r : Listed) (us vs : List ℕ) → us ≡ laid (recs .now) (zeros N) → Answered us r vs → Reads r vs (flat (recs .now))
+    together : (r : Listed) (us vs : List ℕ) → us ≡ laid (recs .now) (zeros N) → Answered us r vs → Reads κs a (flat (recs .now)) (listed r) vs
     together r us vs e f =
         let k : N ≤ length (zeros N) = omega (arith, zeros-length N) in
         f (flat (recs .now)) (subst (λ (t : List ℕ). First t (length (recs .now)) (flat (recs .now))) (sym e) (laid-first (recs .now) (zeros N) k))
@@ -233,7 +223,7 @@ module _ {M : Type 1} (𝓤 : URA M) (H : Heap 𝓤) (A : Atoms 𝓤) (W : Given
       freed ! 26 refl refl $ freed ! 24 refl refl $ move ! (0 ∷ 23 ∷ []) $ free1 ! $ freed ! 20 refl refl $ freed ! 18 refl refl $ freed ! 16 refl refl $ freed ! 14 refl refl $
       freed ! 12 refl refl $ freed ! 10 refl refl $ freed ! 8 refl refl $ freed ! 6 refl refl $ free0 ! $
       move ! (4 ∷ 0 ∷ []) $ use2 W (Tokens 𝓤 H A top.ended (top.clauses 𝓤 H A mem run) y) (id⊢ 𝓤 _) $ move ! (2 ∷ []) $ fsplit ! $ drop ! $ keep ! (1 ∷ 2 ∷ 0 ∷ []) $
-      by ! (ends 𝓤 H A top.ended (top.clauses 𝓤 H A mem run) y W u r (ws .1) (Reads 𝓤 H A mem run y r (ws .1 .1 .1 .1 .1 .1 .1 .0) (flat (a .1 .0 .now))) (id⊢ 𝓤 _)
+      by ! (ends 𝓤 H A top.ended (top.clauses 𝓤 H A mem run) y W u r (ws .1) (Reads κs a (flat (a .1 .0 .now)) (listed r) (ws .1 .1 .1 .1 .1 .1 .1 .0)) (id⊢ 𝓤 _)
       (together 𝓤 H A mem run y r (us .1 .0) (ws .1 .1 .1 .1 .1 .1 .1 .0) e f))))))))))))))))))))))))))
     where
       enough : (us : List ℕ) → length us ≡ length (zeros N) → N ≤ length us
