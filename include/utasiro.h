@@ -14,14 +14,15 @@
  *     blocks   2B words     fill and valid count of each block
  *     spare    B x N words  the label of each physical page, which is block x N + offset
  *   B is 3 to 1,024; N 1 to 256; L 1 to (B-2) x N; M 1 to 8,192. Lengths are
- *   exact and given in words: any other is refused 1, Shape.
+ *   exact and given in words: any other is refused 1, Shape. The extents of
+ *   utasiro_read_records alone are lent as records, M of them, and counted so.
  *   A write, a read and a reclaim are lent an answer buffer too, of any length;
  *   only the words that the answer needs are overwritten.
  *
  * What the caller owes
  *   Each pointer is not null, even where the length is 0; it is aligned to four
- *   bytes; so many words from it on may be read and, but for `const` ones,
- *   written; and no two buffers of a call overlap. Nothing tests this. All else
+ *   bytes; so many words or records from it on may be read and, but for `const`
+ *   ones, written; and no two buffers of a call overlap. Nothing tests this. All else
  *   may be anything: sizes, numbers, and every word of the head and the buffers.
  *
  * What comes back
@@ -69,7 +70,14 @@ typedef struct {
     uint64_t last;    /* the last accepted request number */
 } utasiro_head;
 
-/* What fresh, write, trim, read and reclaim return. */
+/* An extent record: the three words of a slot, in their order. */
+typedef struct {
+    uint32_t logical;  /* logical start */
+    uint32_t physical; /* physical start */
+    uint32_t count;    /* page count */
+} utasiro_extent;
+
+/* What fresh, write, trim, the reads and reclaim return. */
 typedef struct {
     uint32_t refusal;
     uint32_t count; /* pieces of a write or a read, copied pages of a reclaim, 0 for fresh and trim */
@@ -137,6 +145,21 @@ utasiro_outcome utasiro_read(utasiro_head head, const uint32_t *extents, size_t 
                              const uint32_t *blocks, size_t blocks_len,
                              const uint32_t *spare, size_t spare_len,
                              uint32_t start, uint32_t count, uint32_t *answer, size_t answer_len);
+
+/*
+ * Translates as utasiro_read does, with the extents lent as records: what utasiro_read
+ * answers over the words of these records.
+ * Lent: the state, only read, its extents as exactly M records. extents_len counts records
+ * and not words: M, where utasiro_read has 3M. The answer buffer is as for utasiro_read.
+ * Comes back: as from utasiro_read.
+ * Refusals: 1 Shape, for any other number of records too, 2 Damaged, 3 Range, 7 OutShort.
+ * Stack: 98,304 bytes for the words of the records, beside the 8 KB that do for any call.
+ * Then: the host reads the physical pages that it wants.
+ */
+utasiro_outcome utasiro_read_records(utasiro_head head, const utasiro_extent *extents, size_t extents_len,
+                                     const uint32_t *blocks, size_t blocks_len,
+                                     const uint32_t *spare, size_t spare_len,
+                                     uint32_t start, uint32_t count, uint32_t *answer, size_t answer_len);
 
 /*
  * Reclaims the block with most stale pages, the lowest-numbered on a tie (the victim).

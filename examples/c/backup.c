@@ -30,6 +30,11 @@ int main(void) {
             printf("from page %u on: a hole of %u pages\n", piece[0], piece[2]);
         else
             printf("from page %u on: %u pages at page %u\n", piece[0], piece[2], piece[1]);
+    utasiro_extent records[M];
+    for (uint32_t k = 0; k < M; k++)
+        records[k] = (utasiro_extent){extents[3 * k], extents[3 * k + 1], extents[3 * k + 2]};
+    done = utasiro_read_records(done.head, records, M, blocks, 2 * B, spare, B * N, 12, 4, ANSWER);
+    printf("over records, from page %u on: %u pages at page %u\n", answer[0], answer[2], answer[1]);
     utasiro_counts counts = utasiro_report(done.head, STATE);
     printf("free %u, live %u, stale %u\n", counts.free, counts.live, counts.stale);
     return counts.refusal != UTASIRO_ACCEPTED;

@@ -138,7 +138,6 @@ utasiro_counts utasiro_report(utasiro_head head, const uint32_t *extents, size_t
     return make(call, buffers).counts;
 }
 
-#ifdef RECORDS
 utasiro_outcome utasiro_read_records(utasiro_head head, const utasiro_extent *extents, size_t extents_len, const uint32_t *blocks,
                                      size_t blocks_len, const uint32_t *spare, size_t spare_len, uint32_t start, uint32_t count,
                                      uint32_t *answer, size_t answer_len) {
@@ -147,4 +146,3 @@ utasiro_outcome utasiro_read_records(utasiro_head head, const utasiro_extent *ex
     bridge_call call = {.kind = READ_RECORDS, .head = head, .start = start, .count = count};
     return make(call, buffers).outcome;
 }
-#endif

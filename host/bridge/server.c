@@ -40,11 +40,9 @@ static void make(bridge_call *call, uint32_t *words) {
     case REPORT:
         call->counts = utasiro_report(head, e, len[0], b, len[1], s, len[2]);
         break;
-#ifdef RECORDS
     case READ_RECORDS:
         call->outcome = utasiro_read_records(head, (const utasiro_extent *)e, len[0] / 3, b, len[1], s, len[2], start, count, a, len[3]);
         break;
-#endif
     }
 }
 

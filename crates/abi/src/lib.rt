@@ -1,7 +1,9 @@
-// What C and Rust call: each call of the layer under its name in include/utasiro.h, with its answer as a struct by value. The promises are the
-// layer's, through what a struct says.
+// What C and Rust call: each call of the layer, and the read over records, under its name in include/utasiro.h, with its answer as a struct
+// by value. The promises are theirs, through what a struct says. The borrow checker does not cover a function over `&[Extent]`, so
+// `utasiro_read_records` is proved by hand, and does nothing but hand on.
 use rules::Counted;
 use rules::Done;
+use rules::Extent;
 use rules::Head;
 use rules::Listed;
 ghost use mathlib.Core.Path.{_≡_};
@@ -9,6 +11,7 @@ ghost use mathlib.Core.List.{[]};
 ghost use Rattle.rules.specs.Lent.{lent};
 ghost use Rattle.rules.specs.Answers.{outcome};
 ghost use Rattle.rules.specs.Calls.{Call, call, fresh};
+ghost use Rattle.rules.specs.Extents.{flat};
 ghost use Rattle.abi.specs.Said.{ofDone, ofListed, ofCounts, saidDone, saidListed, saidCounts};
 
 // What fresh, write, trim, read and reclaim answer: the refusal's number, or 0; the count, 0 where there is none; the head.
@@ -143,6 +146,22 @@ pub extern "C" fn utasiro_read(
     ensures { λ r. ⌜ outcome (ofListed r) (now (ext .entry)) (now (blk .entry)) (now (spare .entry)) (now (out .exit)) ≡ call (Call.read l n (now (out .entry))) (lent h (now (ext .entry)) (now (blk .entry)) (now (spare .entry))) ⌝ }
 {
     of_listed(layer::read(h, ext, blk, spare, l, n, out))
+}
+
+#[no_mangle]
+pub extern "C" fn utasiro_read_records(
+    h: Head,
+    recs: &[Extent],
+    blk: &[u32],
+    spare: &[u32],
+    l: u32,
+    n: u32,
+    out: &mut [u32],
+) -> Outcome
+    ensures { λ r. ⌜ outcome (ofListed r) (flat (now (recs .entry))) (now (blk .entry)) (now (spare .entry)) (now (out .exit))
+        ≡ call (Call.read l n (now (out .entry))) (lent h (flat (now (recs .entry))) (now (blk .entry)) (now (spare .entry))) ⌝ }
+{
+    of_listed(records::read_records(h, recs, blk, spare, l, n, out))
 }
 
 #[no_mangle]

@@ -30,14 +30,14 @@ module _ (κs : Lfts 4) (a : Args over-records.signature κs) where
     answer = λ s. now (s .1 .1 .1 .1 .1 .1 .0);
   }
 
-  abbrev pub reads : Call
-  reads = Call.read (a .1 .1 .1 .1 .0) (a .1 .1 .1 .1 .1 .0) (now (a .1 .1 .1 .1 .1 .1 .0))
+  abbrev pub reads-records : Call
+  reads-records = Call.read (a .1 .1 .1 .1 .0) (a .1 .1 .1 .1 .1 .0) (now (a .1 .1 .1 .1 .1 .1 .0))
 
-  abbrev pub reads-from : Lent
-  reads-from = lent (a .0) (flat (now (a .1 .0))) (now (a .1 .1 .0)) (now (a .1 .1 .1 .0))
+  abbrev pub records-from : Lent
+  records-from = lent (a .0) (flat (now (a .1 .0))) (now (a .1 .1 .0)) (now (a .1 .1 .1 .0))
 
   abbrev Post : Listed → AtExit over-records.ended κs → Type 0
-  Post r s = leaving listed record-words r s ≡ call reads reads-from
+  Post r s = leaving listed record-words r s ≡ call reads-records records-from
 
   module _ (w : World) where
     pub asks-is : over-records.clauses (w .𝓤) (w .H) (w .𝓖 .A) (w .𝓜 .mem) (w .𝓡 .run) κs a .requires tt ≡ emp (w .𝓤)
@@ -47,6 +47,6 @@ module _ (κs : Lfts 4) (a : Args over-records.signature κs) where
         → over-records.clauses (w .𝓤) (w .H) (w .𝓖 .A) (w .𝓜 .mem) (w .𝓡 .run) κs a .ensures tt r s ≡ fact (w .𝓤) (Post r s)
     contract-is r s = refl
 
-  pub read-records-promises : Promises (Unit {0}) Post listed record-words (Answers reads reads-from)
+  pub read-records-promises : Promises (Unit {0}) Post listed record-words (Answers reads-records records-from)
   read-records-promises =
-      by-rule Post listed record-words (Answers reads reads-from) (call reads reads-from) (demand-1 .calls reads reads-from) (λ r s p. p) (λ r r′ s s′ p q. listed-one r r′)
+      by-rule Post listed record-words (Answers reads-records records-from) (call reads-records records-from) (demand-1 .calls reads-records records-from) (λ r s p. p) (λ r r′ s s′ p q. listed-one r r′)

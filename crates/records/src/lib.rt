@@ -16,7 +16,7 @@ use rules::Listed;
 use rules::Refusal;
 
 // The three words of slot i are the extent's numbers. Where there is no such slot, nothing changes.
-pub fn put_extent(words: &mut [u32], i: usize, e: Extent)
+fn put_extent(words: &mut [u32], i: usize, e: Extent)
     ensures { λ _. ⌜ now (words .exit) ≡ put (now (words .entry)) i e ⌝ }
 {
     if i < words.len() / 3 {
@@ -28,7 +28,7 @@ pub fn put_extent(words: &mut [u32], i: usize, e: Extent)
 }
 
 // The first words are the extents' numbers, three for each, as far as there are slots.
-pub fn flatten(recs: &[Extent], words: &mut [u32])
+fn flatten(recs: &[Extent], words: &mut [u32])
     ensures { λ _. ⌜ now (words .exit) ≡ laid (now (recs .entry)) (now (words .entry)) ⌝ }
 {
     let mut i = 0;
@@ -40,7 +40,7 @@ pub fn flatten(recs: &[Extent], words: &mut [u32])
 
 // Reads over the words of k extents, which are the first of `words`. More extents than a state can have slots have no room there, and are
 // refused with Shape whatever their words are.
-pub fn read_words(
+fn read_words(
     h: Head,
     words: &[u32],
     k: usize,

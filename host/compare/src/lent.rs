@@ -8,6 +8,11 @@ use utasiro::ffi;
 #[derive(Clone, Copy, Debug, Default)]
 pub struct Lent;
 
+/// The library with every read made over extent records, wherever the words that are
+/// lent are whole records.
+#[derive(Clone, Copy, Debug, Default)]
+pub struct OverRecords;
+
 /// Stands before, between and after the buffers.
 const GUARD: u32 = 0x5EED_F1A5;
 
@@ -134,8 +139,6 @@ impl Layer for Lent {
         let done =
             unsafe { ffi::utasiro_read(to_library(head), pe, el, pb, bl, ps, sl, start, count, pa, al) };
         arena.check(&[(0, e), (1, b), (2, s)]);
-        #[cfg(feature = "records")]
-        records::check(head, words, start, count, answer, (done, arena.buffer(3)));
         arena.put_back(3, answer);
         outcome(done)
     }
@@ -166,33 +169,48 @@ impl Layer for Lent {
     }
 }
 
-#[cfg(feature = "records")]
-mod records {
-    use super::{to_library, Arena};
-    use plain::{Head, Words};
-    use utasiro::ffi;
+impl Layer for OverRecords {
+    fn fresh(&self, blocks: u32, pages: u32, logical: u32, slots: u32, words: &mut Words) -> Outcome {
+        Lent.fresh(blocks, pages, logical, slots, words)
+    }
 
-    /// Reading over records must do as reading over words did, wherever the words
-    /// are whole records.
-    pub fn check(
+    fn write(
+        &self,
         head: Head,
-        words: &Words,
+        words: &mut Words,
+        number: u64,
         start: u32,
         count: u32,
-        answer: &[u32],
-        by_words: (ffi::Outcome, &[u32]),
-    ) {
+        answer: &mut [u32],
+    ) -> Outcome {
+        Lent.write(head, words, number, start, count, answer)
+    }
+
+    fn trim(&self, head: Head, words: &mut Words, number: u64, start: u32, count: u32) -> Outcome {
+        Lent.trim(head, words, number, start, count)
+    }
+
+    fn read(&self, head: Head, words: &Words, start: u32, count: u32, answer: &mut [u32]) -> Outcome {
         let Words { extents: e, blocks: b, spare: s } = words;
         if e.len() % 3 != 0 {
-            return;
+            return Lent.read(head, words, start, count, answer);
         }
         let mut arena = Arena::new(&[e, b, s, answer]);
         let [pe, pb, ps, pa] = arena.pointers();
         let (el, bl, sl, al) = (e.len() / 3, b.len(), s.len(), answer.len());
         let (head, pe) = (to_library(head), pe.cast_const().cast());
-        // Safety: as for the calls; a record is three words.
+        // Safety: as of the calls above; a record is three words.
         let done = unsafe { ffi::utasiro_read_records(head, pe, el, pb, bl, ps, sl, start, count, pa, al) };
         arena.check(&[(0, e), (1, b), (2, s)]);
-        assert_eq!((done, arena.buffer(3)), by_words, "reading over records does otherwise");
+        arena.put_back(3, answer);
+        outcome(done)
+    }
+
+    fn reclaim(&self, head: Head, words: &mut Words, answer: &mut [u32]) -> Outcome {
+        Lent.reclaim(head, words, answer)
+    }
+
+    fn report(&self, head: Head, words: &Words) -> Counts {
+        Lent.report(head, words)
     }
 }

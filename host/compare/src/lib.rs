@@ -1,17 +1,18 @@
 //! The library compared with the plain implementation.
 //!
-//! [`Lent`] is the library as a layer over lent words. [`Pair`] runs one request
-//! after the other on a layer and on plain, and compares every answer and every
-//! lent word. The tests try random histories, damaged states, requests sent again
-//! and a simulated flash; a failure prints the shortest history it can find as a
-//! request list (docs/REPLAY.md).
+//! [`Lent`] is the library as a layer over lent words, and [`OverRecords`] the same
+//! with reads over extent records. [`Pair`] runs one request after the other on a
+//! layer and on plain, and compares every answer and every lent word. The tests try
+//! random histories, damaged states, requests sent again, a simulated flash and reads
+//! over records; a failure prints the shortest history it can find as a request list
+//! (docs/REPLAY.md).
 //!
 //! `UTASIRO_LONG=1` runs twenty times as much. `UTASIRO_SEED=K` runs others.
 
 mod lent;
 mod pair;
 
-pub use lent::Lent;
+pub use lent::{Lent, OverRecords};
 pub use pair::{fail, Pair};
 
 use plain::random::Random;

@@ -1,7 +1,7 @@
 //! A device that owns its words. Answers come back as lists, so no answer buffer
 //! is ever short.
 
-use crate::ffi::{self, Head, Outcome};
+use crate::ffi::{self, Extent, Head, Outcome};
 use crate::{Refusal, HOLE};
 
 /// The largest sizes of document 01. Beyond them every call is refused, so no
@@ -199,7 +199,7 @@ impl Device {
     /// # Ok::<(), Refusal>(())
     /// ```
     pub fn read(&self, start: u32, count: u32) -> Result<Vec<Piece>, Refusal> {
-        let mut answer = vec![0; 3 * self.most_pieces(count)];
+        let mut answer = vec![0; 3 * most_pieces(self.head, count)];
         // Safety: the buffers are four vectors with their own lengths.
         let outcome = unsafe {
             ffi::utasiro_read(
@@ -314,6 +314,12 @@ impl Device {
         &self.extents
     }
 
+    /// The extents as records, one for each slot.
+    pub fn records(&self) -> Vec<Extent> {
+        let slots = self.extents.chunks_exact(3);
+        slots.map(|slot| Extent { logical: slot[0], physical: slot[1], count: slot[2] }).collect()
+    }
+
     /// 2B words: fill, valid of each block.
     pub fn blocks(&self) -> &[u32] {
         &self.blocks
@@ -324,18 +330,63 @@ impl Device {
         &self.spare
     }
 
-    /// A read has at most a piece for each page, and at most each extent and a
-    /// hole before, between and after them.
-    fn most_pieces(&self, count: u32) -> usize {
-        let extents = self.head.used.min(MOST_SLOTS);
-        count.min(2 * extents + 1) as usize
-    }
-
     fn take(&mut self, outcome: Outcome) -> Result<(), Refusal> {
         accepted(outcome.refusal)?;
         self.head = outcome.head;
         Ok(())
     }
+}
+
+/// Where `count` logical pages from `start` on are, as [`Device::read`] says it, for a
+/// host that keeps its extents as records: exactly M of them, one for each slot. It
+/// needs 98,304 bytes of stack more than a read over words.
+///
+/// ```
+/// # use utasiro::{read_records, Device, Refusal, Sizes};
+/// # let mut device = Device::fresh(Sizes { blocks: 4, pages: 16, logical: 32, slots: 16 })?;
+/// device.write(1, 4, 2)?;
+/// let extents = device.records();
+/// let pieces = read_records(device.head(), &extents, device.blocks(), device.spare(), 0, 32)?;
+/// assert_eq!(pieces, device.read(0, 32)?);
+/// let short = read_records(device.head(), &extents[1..], device.blocks(), device.spare(), 0, 32);
+/// assert_eq!(short, Err(Refusal::Shape));
+/// # Ok::<(), Refusal>(())
+/// ```
+pub fn read_records(
+    head: Head,
+    extents: &[Extent],
+    blocks: &[u32],
+    spare: &[u32],
+    start: u32,
+    count: u32,
+) -> Result<Vec<Piece>, Refusal> {
+    let mut answer = vec![0; 3 * most_pieces(head, count)];
+    // Safety: the buffers are three slices and a vector with their own lengths. Should two
+    // of the slices overlap, nothing is written there.
+    let outcome = unsafe {
+        ffi::utasiro_read_records(
+            head,
+            extents.as_ptr(),
+            extents.len(),
+            blocks.as_ptr(),
+            blocks.len(),
+            spare.as_ptr(),
+            spare.len(),
+            start,
+            count,
+            answer.as_mut_ptr(),
+            answer.len(),
+        )
+    };
+    accepted(outcome.refusal)?;
+    Ok(pieces(&answer, outcome.count))
+}
+
+/// A read has at most a piece for each page, and at most each extent and a hole
+/// before, between and after them.
+fn most_pieces(head: Head, count: u32) -> usize {
+    let extents = head.used.min(MOST_SLOTS);
+    count.min(2 * extents + 1) as usize
 }
 
 /// A refusal's number as a result.

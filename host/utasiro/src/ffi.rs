@@ -21,7 +21,19 @@ pub struct Head {
     pub last: u64,
 }
 
-/// What fresh, write, trim, read and reclaim return.
+/// An extent record: the three words of a slot, in their order.
+#[repr(C)]
+#[derive(Clone, Copy, Debug, Default, PartialEq, Eq)]
+pub struct Extent {
+    /// Logical start.
+    pub logical: u32,
+    /// Physical start.
+    pub physical: u32,
+    /// Page count.
+    pub count: u32,
+}
+
+/// What fresh, write, trim, the reads and reclaim return.
 #[repr(C)]
 #[derive(Clone, Copy, Debug, PartialEq, Eq)]
 pub struct Outcome {
@@ -44,17 +56,9 @@ pub struct Counts {
     pub head: Head,
 }
 
-/// An extent slot as a record.
-#[repr(C)]
-#[derive(Clone, Copy, Debug, Default, PartialEq, Eq)]
-pub struct Extent {
-    pub logical: u32,
-    pub physical: u32,
-    pub count: u32,
-}
-
-// Safety, for each: no pointer is null, each is aligned, so many words from it on
-// may be read and, but for `*const` ones, written, and no two buffers overlap.
+// Safety, for each: no pointer is null, each is aligned, so many words, or records,
+// from it on may be read and, but for `*const` ones, written, and no two buffers
+// overlap.
 extern "C" {
     pub fn utasiro_fresh(
         blocks: u32,
@@ -111,6 +115,21 @@ extern "C" {
         answer_len: usize,
     ) -> Outcome;
 
+    /// `extents_len` is in records.
+    pub fn utasiro_read_records(
+        head: Head,
+        extents: *const Extent,
+        extents_len: usize,
+        blocks: *const u32,
+        blocks_len: usize,
+        spare: *const u32,
+        spare_len: usize,
+        start: u32,
+        count: u32,
+        answer: *mut u32,
+        answer_len: usize,
+    ) -> Outcome;
+
     pub fn utasiro_reclaim(
         head: Head,
         extents: *mut u32,
@@ -132,19 +151,4 @@ extern "C" {
         spare: *const u32,
         spare_len: usize,
     ) -> Counts;
-
-    #[cfg(feature = "records")]
-    pub fn utasiro_read_records(
-        head: Head,
-        extents: *const Extent,
-        extents_len: usize,
-        blocks: *const u32,
-        blocks_len: usize,
-        spare: *const u32,
-        spare_len: usize,
-        start: u32,
-        count: u32,
-        answer: *mut u32,
-        answer_len: usize,
-    ) -> Outcome;
 }

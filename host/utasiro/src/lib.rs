@@ -8,6 +8,8 @@
 //! - [`Store`]: a device with a simulated [`Flash`] under it, which does as the
 //!   calls list. For trying things out.
 //!
+//! [`read_records`] is for a host that keeps its extents as records.
+//!
 //! Every write and trim has a number. A request that is sent again is refused:
 //!
 //! ```
@@ -29,8 +31,8 @@ mod flash;
 mod refusal;
 mod store;
 
-pub use device::{Device, Piece, Reclaimed, Report, Sizes};
-pub use ffi::Head;
+pub use device::{read_records, Device, Piece, Reclaimed, Report, Sizes};
+pub use ffi::{Extent, Head};
 pub use flash::{Fault, Flash};
 pub use refusal::Refusal;
 pub use store::Store;
