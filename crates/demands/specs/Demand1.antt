@@ -1,18 +1,20 @@
 -- Demand 1. Any request on any lent state gets an answer. Bad shapes, damaged state, bad ranges, a request already applied, and want of pages, extent
 -- slots, answer room or stale pages are refused by number, exactly when the rules say, and a refusal changes nothing lent.
 -- This is the statement; `demand-1` (Proved) proves it.
-use Prim.Native.Nat.{ℕ, _+_}
+use Prim.Native.Nat.{ℕ, _+_, _-_, _*_}
 use mathlib.Core.Bool.{Bool, true, false, not, cond, _&&_, _||_}
 use mathlib.Core.Path.{_≡_}
 use mathlib.Core.List.{List, [], _∷_}
 use lib.Dec.{eqb, ltb, leb}
-use lib.ListN.{length, drop}
+use lib.ListN.{length, getD, drop, replicate}
+use Rattle.rules.specs.Extents.{none}
+use Rattle.rules.specs.Blocks.{stride}
 use Rattle.rules.specs.Lent.{Lent, lent}
 use Rattle.rules.specs.Shape.{sizes, lengths, shaped}
 use Rattle.rules.specs.Sound.{sound}
-use Rattle.rules.specs.Device.{free, stale, extents, deviceOf, wordsOf}
+use Rattle.rules.specs.Device.{free, stale, extents, deviceOf}
 use Rattle.rules.specs.Answers.{Outcome, number}
-use Rattle.rules.specs.Calls.{Call, leaves, lists, buffer, zeros, acceptedOn, call, freshDevice, sizesOnly, fresh}
+use Rattle.rules.specs.Calls.{Call, leaves, lists, buffer, acceptedOn, call, fresh}
 use Rattle.rules.specs.declared.Refusal.{Refusal}
 use Rattle.demands.specs.Requests.{isWrite, numberOf, startOf, countOf}
 
@@ -52,11 +54,11 @@ firstOf (r ∷ rs) applies = cond (applies r) (number r) (firstOf rs applies)
 
 -- ---- a call on a lent state
 
--- what is lent, and every count, when a call is refused: the head and every word of the state as given, the answer buffer too, and zeros
+-- a refusal: zero for every count; the head as given, and every word of the state and of the answer buffer
 pub record Untouched (c : Call) (s : Lent) (o : Outcome Lent) : Type 0 where
+  pub counts : (i : ℕ) → getD (o .counts) i 0 ≡ 0
   pub after : o .after ≡ s
   pub out : o .out ≡ buffer c
-  pub counts : o .counts ≡ zeros c
 
 -- outcome o answers call c on state s
 pub record Answers (c : Call) (s : Lent) (o : Outcome Lent) : Type 0 where
@@ -72,8 +74,12 @@ pub record Answers (c : Call) (s : Lent) (o : Outcome Lent) : Type 0 where
 pub record FreshAnswers (b n l m : ℕ) (extents blocks spare : List ℕ) (o : Outcome Lent) : Type 0 where
   pub refusal : o .refusal ≡ cond (sizes b n l m && lengths b n m (length extents) (length blocks) (length spare)) 0 (number Refusal.Shape)
   -- refused, its head holds the four sizes as given and zero elsewhere, and no word changes
-  pub refused : (o .refusal ≡ 0 → ⊥) → o .after ≡ lent (sizesOnly b n l m) extents blocks spare
-  pub accepted : o .refusal ≡ 0 → o .after ≡ wordsOf (freshDevice b n l m)
+  pub refused : (o .refusal ≡ 0 → ⊥)
+      → o .after ≡ lent (record { blocks = b; pages = n; logical = l; slots = m; used = 0; reserve = 0; last = 0 }) extents blocks spare
+  -- no extents, all slots zero, all fills and valid counts 0, all spare erased, reserve B-1, last number 0
+  pub accepted : o .refusal ≡ 0
+      → o .after ≡ lent (record { blocks = b; pages = n; logical = l; slots = m; used = 0; reserve = b - 1; last = 0 })
+      (replicate (3 * m) 0) (replicate (stride * b) 0) (replicate (b * n) none)
   -- it counts nothing and lists nothing
   pub counts : o .counts ≡ []
   pub out : o .out ≡ []

@@ -6,7 +6,7 @@ use mathlib.Core.List.{List, [], _∷_, _++_}
 use native.Mathlib.Omega.{arith}
 use borrow.Author.Tests.{eq-eqb}
 use lib.Dec.{eqb, ltb, leb}
-use lib.ListN.{length, drop}
+use lib.ListN.{length, getD, drop}
 use lib.Seq.{drop-append-seam}
 use Rattle.rules.specs.Extents.{flat}
 use Rattle.rules.specs.declared.Extent.{Extent}
@@ -19,9 +19,12 @@ use Rattle.rules.specs.Reclaim.{victim, sources, reclaimedAt, reclaimed}
 use Rattle.rules.specs.Read.{found}
 use Rattle.rules.specs.Number.{applied, judged, withTable, numbered, written, trimmed}
 use Rattle.rules.specs.Answers.{Outcome, number, refuse}
-use Rattle.rules.specs.Calls.{Call, outside, tooMany, writeRefusal, trimRefusal, readRefusal, reclaimRefusal, refusal, leaves, lists, buffer, over, refused, verdict, acceptedOn, call, freshDevice, sizesOnly, fresh}
+use Rattle.rules.specs.Calls.{Call, outside, tooMany, writeRefusal, trimRefusal, readRefusal, reclaimRefusal, refusal, leaves, lists, buffer, over, zeros, refused, verdict, acceptedOn, call, freshDevice, sizesOnly, fresh}
 use Rattle.rules.specs.declared.Refusal.{Refusal}
-use Rattle.laws.specs.Bools.{cases}
+use Rattle.laws.specs.Bools.{and-split}
+use Rattle.laws.specs.Cells.{replicate-at}
+use Rattle.laws.specs.Shapes.{sizes-true}
+use Rattle.laws.specs.FreshWords.{fresh-words}
 use Rattle.laws.specs.Slots.{flat-length}
 use Rattle.laws.specs.Placed.{puts-slots}
 use Rattle.laws.specs.States.{device-lines}
@@ -92,10 +95,17 @@ module _ (s : Lent) where
 
 -- ---- a call
 
+all-zero : (c : Call) (i : ℕ) → getD (zeros c) i 0 ≡ 0
+all-zero (Call.write k l n out) i = replicate-at {A = ℕ} 0 1 i
+all-zero (Call.trim k l n) i = replicate-at {A = ℕ} 0 0 i
+all-zero (Call.read l n out) i = replicate-at {A = ℕ} 0 1 i
+all-zero (Call.reclaim out) i = replicate-at {A = ℕ} 0 1 i
+all-zero Call.report i = replicate-at {A = ℕ} 0 3 i
+
 untouched : (c : Call) (s : Lent) (b : Bool) → (cond b (acceptedOn c s) (refused (verdict c s) c s) .refusal ≡ 0 → ⊥) → Untouched c s (cond b (acceptedOn c s) (refused (verdict c s) c s))
 unfolding acceptedOn refused
 untouched c s true h = absurd (h refl)
-untouched c s false h = record { after = refl; out = refl; counts = refl }
+untouched c s false h = record { counts = all-zero c; after = refl; out = refl }
 
 pub refused-untouched : (c : Call) (s : Lent) → (call c s .refusal ≡ 0 → ⊥) → Untouched c s (call c s)
 unfolding call
@@ -127,10 +137,11 @@ module _ (b n l m : ℕ) (es bs ss : List ℕ) where
   kept = record { refusal = number Refusal.Shape; counts = []; after = lent (sizesOnly b n l m) es bs ss; out = [] }
 
   fresh-by : (t : Bool) → t ≡ (sizes b n l m && lengths b n m (length es) (length bs) (length ss)) → FreshAnswers b n l m es bs ss (cond t made kept)
+  unfolding sizesOnly
   fresh-by true e = record {
     refusal = rw (← e);
     refused = λ h. absurd (h refl);
-    accepted = λ h. refl;
+    accepted = λ h. sym (fresh-words b n l m (sizes-true b n l m (and-split (sizes b n l m) (lengths b n m (length es) (length bs) (length ss)) (sym e) .0)));
     counts = refl;
     out = refl;
   }

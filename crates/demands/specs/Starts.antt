@@ -8,15 +8,15 @@ use native.Mathlib.Omega.{arith}
 use native.Mathlib.Decide.{decLt}
 use lib.ListN.{length, getD, replicate, length-replicate, List·getD-eq-default}
 use Rattle.rules.specs.Counting.{tabulate}
-use Rattle.rules.specs.Extents.{none, runs}
+use Rattle.rules.specs.Extents.{none}
 use Rattle.rules.specs.Lent.{Lent, fillOf}
 use Rattle.rules.specs.Shape.{sizes, lengths, shaped}
 use Rattle.rules.specs.Sound.{sound}
 use Rattle.rules.specs.Device.{blocks, lines, at, extents, deviceOf, headOf, wordsOf}
-use Rattle.rules.specs.Calls.{freshDevice, sizesOnly, fresh}
+use Rattle.rules.specs.Calls.{freshDevice, fresh}
 use Rattle.laws.specs.Bools.{cases, and-split}
 use Rattle.laws.specs.Cells.{length-tabulate, getD-tabulate, replicate-at}
-use Rattle.laws.specs.Runs.{runs-hole}
+use Rattle.laws.specs.Runs.{runs-holes}
 use Rattle.laws.specs.Fresh.{fresh-blocks, fresh-lines, fresh-at, fresh-sound}
 use Rattle.demands.specs.Flash.{Cell, erased, hole, contents}
 use Rattle.demands.specs.Shows.{see-hole, Clean}
@@ -70,11 +70,6 @@ module _ (s : Lent) (z : shaped s ≡ true) (e : sound s ≡ true) where
 
 -- ---- the fresh device
 
-runs-none : (n a l : ℕ) → runs n a (replicate l none) ≡ []
-unfolding runs
-runs-none n a zero = refl
-runs-none n a (suc l) = runs-hole n a none (replicate l none) refl ∙ runs-none n (suc a) l
-
 module _ (b n l m : ℕ) (z : sizes b n l m ≡ true) where
   is-sized : Sizes b n l m
   is-sized = sizes-true b n l m z
@@ -84,7 +79,7 @@ module _ (b n l m : ℕ) (z : sizes b n l m ≡ true) where
   fresh-good = record {
     sizes = rw (fresh-blocks b n l m, fresh-lines b n l m) is-sized;
     sound = fresh-sound b n l m (is-sized .n-low) (omega (arith, is-sized .b-low)) (pages-fit is-sized);
-    few = omega (arith, ap length (runs-none n 0 l));
+    few = omega (arith, ap length (runs-holes n 0 l));
   }
 
   fresh-agrees : Agrees (freshDevice b n l m) (replicate (b * n) erased) (replicate l hole)
@@ -128,12 +123,3 @@ fresh-leaves-sound b n l m es bs ss e =
     let p = fresh-leaves b n l m es bs ss e in
     let g = fresh-good b n l m (p .0) in
     (rw (p .1) (good-shaped (freshDevice b n l m) g), rw (p .1) (good-sound (freshDevice b n l m) g))
-
--- a refused one leaves every word, and the sizes as they were given
-pub fresh-refused : (b n l m : ℕ) (es bs ss : List ℕ) → (fresh b n l m es bs ss .refusal ≡ 0 → ⊥)
-    → fresh b n l m es bs ss .after ≡ record { head = sizesOnly b n l m; extents = es; blocks = bs; spare = ss }
-unfolding fresh
-fresh-refused b n l m es bs ss e =
-    cases (sizes b n l m && lengths b n m (length es) (length bs) (length ss))
-    (λ t. absurd (e (rw t)))
-    (λ t. rw t)

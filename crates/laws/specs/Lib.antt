@@ -22,6 +22,7 @@ pub mod Valid
 pub mod Fresh
 pub mod Sane
 pub mod Shapes
+pub mod FreshWords
 pub mod Ranked
 pub mod Sanes
 pub mod Tallies

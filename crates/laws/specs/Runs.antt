@@ -8,7 +8,7 @@ use native.Mathlib.Omega.{arith}
 use native.Mathlib.Decide.{decLt, ℕ-discrete}
 use native.Mathlib.Nat.{mod-lt, div-add-mod'}
 use borrow.Author.Tests.{eqb-true, eq-eqb, ne-eqb}
-use lib.ListN.{length, getD, List·getD-eq-default}
+use lib.ListN.{length, getD, replicate, List·getD-eq-default}
 use lib.Seq.{sets, length-sets}
 use Rattle.rules.specs.Counting.{tabulate}
 use Rattle.rules.specs.Extents.{none, extent, lookup, joinable, join, runs}
@@ -117,6 +117,11 @@ Words ps = (i : ℕ) → getD ps i none ≤ none
 pub runs-hole : (n l p : ℕ) (ps : List ℕ) → p ≡ none → runs n l (p ∷ ps) ≡ runs n (suc l) ps
 unfolding runs
 runs-hole n l p ps e = rw (eq-eqb p none e)
+
+pub runs-holes : (n l m : ℕ) → runs n l (replicate m none) ≡ []
+unfolding runs
+runs-holes n l zero = refl
+runs-holes n l (suc m) = runs-hole n l none (replicate m none) refl ∙ runs-holes n (suc l) m
 
 pub runs-page : (n l p : ℕ) (ps : List ℕ) → (p ≡ none → ⊥) → runs n l (p ∷ ps) ≡ join n (extent l p 1) (runs n (suc l) ps)
 unfolding runs
