@@ -73,16 +73,14 @@ module _ (s : Lent) (h : Shaped s) (z : Sane s) where
     victim-record = (omega (arith, victim-inside, h .blocks), sane-filled s h z .valid v victim-inside)
 
     -- 8: the victim has no stale page
-    is-nothing : (t : Bool) → t ≡ ltb 0 (staleWord (s .blocks) v) → not t ≡ eqb (stale (deviceOf s)) 0
-    is-nothing t e =
+    is-nothing : (i : ℕ) → i ≡ staleWord (s .blocks) v → not (ltb 0 i) ≡ eqb (stale (deviceOf s)) 0
+    is-nothing i e =
         let w = staleWord (s .blocks) in
-        let b = s .head .blocks in
+        let n = s .head .blocks in
         let all = device-stale s h z in
-        by-cases (decLt 0 (w v))
-        (λ g. ap not (e ∙ lt-ltb 0 (w v) g)
-        ∙ sym (ne-eqb (stale (deviceOf s)) 0 (λ o. omega (arith, zero-sum b w (sym all ∙ o) v victim-inside))))
-        (λ g. ap not (e ∙ le-ltb 0 (w v) (omega arith))
-        ∙ sym (eq-eqb (stale (deviceOf s)) 0 (all ∙ sum-zero b w (λ i o. omega (arith, most-top b w i o, ap w f)))))
+        by-cases (decLt 0 i)
+        (λ g. ap not (lt-ltb 0 i g) ∙ sym (ne-eqb (stale (deviceOf s)) 0 (λ o. omega (arith, zero-sum n w (sym all ∙ o) v victim-inside))))
+        (λ g. ap not (le-ltb 0 i (omega arith)) ∙ sym (eq-eqb (stale (deviceOf s)) 0 (all ∙ sum-zero n w (λ b o. omega (arith, most-top n w b o, ap w f)))))
 
     module _ (some : 0 < stale (deviceOf s)) where
       chosen : Chosen (deviceOf s) (victim (deviceOf s))
@@ -108,16 +106,16 @@ module _ (s : Lent) (h : Shaped s) (z : Sane s) where
     many = refl
 
     -- by three tests, of which the second is made where the first is passed
-    pub reclaim-first : (room : ℕ) (t u w : Bool) (a b c : Verdict) → t ≡ ltb 0 (staleWord (s .blocks) v)
-        → (t ≡ true → u ≡ leb (length (remapped (s .head .pages) v (s .head .reserve) (inUse s))) (s .head .slots)) → w ≡ leb (validWord (s .blocks) v) room
-        → told a ≡ refuse (not t) Refusal.NothingStale 0 → told b ≡ refuse (not u) Refusal.NoNodes 0 → told c ≡ refuse (not w) Refusal.OutShort 0
-        → firstOf a (firstOf b (told c)) ≡ reclaimRefusal (roomed room) (deviceOf s)
+    pub reclaim-first : (room i j : ℕ) (u : Bool) (a b c : Verdict) → i ≡ staleWord (s .blocks) v → j ≡ validWord (s .blocks) v
+        → (ltb 0 i ≡ true → u ≡ leb (length (remapped (s .head .pages) v (s .head .reserve) (inUse s))) (s .head .slots))
+        → told a ≡ refuse (not (ltb 0 i)) Refusal.NothingStale 0 → told b ≡ refuse (not u) Refusal.NoNodes 0
+        → told c ≡ refuse (not (leb j room)) Refusal.OutShort 0 → firstOf a (firstOf b (told c)) ≡ reclaimRefusal (roomed room) (deviceOf s)
     unfolding reclaimRefusal tooMany
-    reclaim-first room t u w a b c et eu ew pa pb pc =
-        first-then a Refusal.NothingStale pa (is-nothing t et)
+    reclaim-first room i j u a b c e f look p q r =
+        first-then a Refusal.NothingStale p (is-nothing i e)
         (λ g. let some : 0 < stale (deviceOf s) = omega (arith, eqb-false (stale (deviceOf s)) 0 g) in
         let k = length (remapped (s .head .pages) v (s .head .reserve) (inUse s)) in
-        first-then b Refusal.NoNodes pb
-        (ap not (eu (not-false t (is-nothing t et ∙ g))) ∙ over-not k (s .head .slots) ∙ ap₂ ltb (sym many) (nodes some))
-        (λ o. pc ∙ ap (λ (r : Bool). refuse r Refusal.OutShort 0)
-        (ap not ew ∙ over-not (validWord (s .blocks) v) room ∙ ap₂ ltb (sym (length-replicate {A = ℕ} room 0)) (copies some))))
+        first-then b Refusal.NoNodes q
+        (ap not (look (not-false (ltb 0 i) (is-nothing i e ∙ g))) ∙ over-not k (s .head .slots) ∙ ap₂ ltb (sym many) (nodes some))
+        (λ o. r ∙ ap (λ (x : Bool). refuse x Refusal.OutShort 0)
+        (over-not j room ∙ ap₂ ltb (sym (length-replicate {A = ℕ} room 0)) (f ∙ copies some))))

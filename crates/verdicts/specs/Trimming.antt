@@ -54,12 +54,11 @@ module _ (s : Lent) (h : Shaped s) (z : Sane s) (k l n : ℕ) where
       pub trim-inside : (0 < n) × (l + n ≤ s .head .logical)
       trim-inside = inside-words s h z l n (asked-inside s k (outside l n (deviceOf s)) v a g)
 
-      pub trim-last : (u : Bool) (w : Verdict) → u ≡ leb (startsBefore l (inUse s) + endsAfter (l + n) (inUse s)) (s .head .slots)
-          → told w ≡ refuse (not u) Refusal.NoNodes 0 → told w ≡ trimRefusal k l n (deviceOf s)
+      pub trim-last : (i j : ℕ) (w : Verdict) → i ≡ startsBefore l (inUse s) → j ≡ endsAfter (l + n) (inUse s)
+          → told w ≡ refuse (not (leb (i + j) (s .head .slots))) Refusal.NoNodes 0 → told w ≡ trimRefusal k l n (deviceOf s)
       unfolding trimRefusal tooMany
-      trim-last u w i j =
-          let after = trim-nodes (trim-inside .0) (trim-inside .1) in
-          let most = startsBefore l (inUse s) + endsAfter (l + n) (inUse s) in
-          j
-          ∙ ap (λ (y : Bool). refuse y Refusal.NoNodes 0) (ap not i ∙ over-not most (s .head .slots) ∙ sym (ap₂ ltb many after))
+      trim-last i j w e f p =
+          let after : i + j ≡ length (extents (trimmed k l n (deviceOf s))) = ap₂ _+_ e f ∙ sym (trim-nodes (trim-inside .0) (trim-inside .1)) in
+          p
+          ∙ ap (λ (x : Bool). refuse x Refusal.NoNodes 0) (over-not (i + j) (s .head .slots) ∙ ap₂ ltb (sym many) after)
           ∙ sym (asked-passes s k (outside l n (deviceOf s)) v a _ g)

@@ -81,13 +81,11 @@ module _ (s : Lent) (h : Shaped s) (z : Sane s) (k l n room : ℕ) (v : Verdict)
       slots-same = puts-slots l _ (deviceOf s)
 
       -- 6, then 7
-      pub write-last : (c d : Bool) (y w : Verdict) → c ≡ leb (nodesOf l n s) (s .head .slots) → d ≡ leb (piecesOf l n s) (room / 3)
-          → told y ≡ refuse (not c) Refusal.NoNodes 0 → told w ≡ refuse (not d) Refusal.OutShort 0
-          → firstOf y (told w) ≡ writeRefusal k l n (roomed room) (deviceOf s)
+      pub write-last : (i j : ℕ) (y w : Verdict) → i ≡ nodesOf l n s → j ≡ piecesOf l n s → told y ≡ refuse (not (leb i (s .head .slots))) Refusal.NoNodes 0
+          → told w ≡ refuse (not (leb j (room / 3))) Refusal.OutShort 0 → firstOf y (told w) ≡ writeRefusal k l n (roomed room) (deviceOf s)
       unfolding tooMany
-      write-last c d y w fc fd py pw =
-          first-then y Refusal.NoNodes py
-          (ap not fc ∙ over-not (nodesOf l n s) (s .head .slots) ∙ ap (λ (r : ℕ). ltb r (nodesOf l n s)) (sym slots-same))
-          (λ o. pw ∙ ap (λ (r : Bool). refuse r Refusal.OutShort 0)
-          (ap not fd ∙ short-words room (piecesOf l n s) ∙ ap (λ (r : ℕ). ltb r (3 * piecesOf l n s)) (sym (length-replicate {A = ℕ} room 0))))
+      write-last i j y w e f p q =
+          first-then y Refusal.NoNodes p (over-not i (s .head .slots) ∙ ap₂ ltb (sym slots-same) e)
+          (λ o. q ∙ ap (λ (x : Bool). refuse x Refusal.OutShort 0)
+          (short-words room j ∙ ap₂ (λ (x y : ℕ). ltb x (3 * y)) (sym (length-replicate {A = ℕ} room 0)) f))
           ∙ sym from-six

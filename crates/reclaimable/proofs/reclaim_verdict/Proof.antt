@@ -1,10 +1,12 @@
 use borrow.Author.Needs.{needs}
-use mathlib.Core.Bool.{true≢false}
+use mathlib.Core.Bool.{true, true≢false}
 use mathlib.Core.Logic.{⊎-elim}
-use mathlib.Core.Path.{sym, ap, _∙_}
+use mathlib.Core.Path.{_≡_, sym, ap, _∙_}
 use Prim.Native.Nat.{ℕ}
 use lib.Dec.{ltb, leb}
-use Rattle.rules.specs.Lent.{Lent, lent}
+use lib.ListN.{length}
+use Rattle.rules.specs.Lent.{Lent, lent, inUse}
+use Rattle.reclaiming.specs.Remapped.{remapped}
 use Rattle.verdicts.specs.Refusals.{firstOf}
 use Rattle.reclaimable.specs.Reclaiming.{sane-walkable, sane-records, victim-record, reclaim-first}
 use Rattle.reclaimable.proofs.reclaim_verdict.Statement.{statement}
@@ -12,6 +14,18 @@ use Rattle.reclaimable.proofs.reclaim_verdict.Tie as tie
 
 abbrev state : tie.Start → Lent
 state s = lent (s .args .h) (s .args .ext .now) (s .args .blk .now) (s .args .spare .now)
+
+abbrev victim : tie.Joined1 → tie.After-victim-of
+victim c = c .before .before .before
+
+abbrev start : tie.Joined1 → tie.Start
+start c = victim c .before .before .before .before
+
+-- the second test, where it is made
+looked : (c : tie.Joined1) → ltb 0 (c .before .before .stale-of .result) ≡ true
+    → c .if1 .fits ≡ leb (length (remapped (start c .args .h .pages) (victim c .victim-of .result) (start c .args .h .reserve) (inUse (state (start c))))) (start c .args .h .slots)
+looked c e =
+    ⊎-elim (λ w. w .3 ∙ ap (λ (x : ℕ). leb x (start c .args .h .slots)) (w .1 .ensures)) (λ w. absurd (true≢false (sym e ∙ w .0 .left))) (c .if1 .came)
 
 victim-of-requires : tie.Need-victim-of-requires
 victim-of-requires c κs = let s = c .before .before .before in sane-records (state s) (s .pre .0) (s .pre .1)
@@ -68,16 +82,11 @@ returns c =
     let join = nothing .before in
     let copies = join .before in
     let stale = copies .before in
-    let v = stale .before in
-    let s = v .before .before .before .before in
+    let s = start join in
     c .first-of2 .ensures ∙ ap (firstOf (nothing .unless .result)) (later .first-of .ensures)
-    ∙ reclaim-first (state s) (s .pre .0) (s .pre .1) (v .victim-of .result) (v .victim-of .ensures) (s .args .room)
-    (ltb 0 (stale .stale-of .result)) (join .if1 .fits) (leb (copies .valid-of .result) (s .args .room))
-    (nothing .unless .result) (many .unless2 .result) (short .unless3 .result)
-    (ap (ltb 0) (stale .stale-of .ensures))
-    (λ e. ⊎-elim (λ w. w .3 ∙ ap (λ (x : ℕ). leb x (s .args .h .slots)) (w .1 .ensures)) (λ w. absurd (true≢false (sym e ∙ w .0 .left))) (join .if1 .came))
-    (ap (λ (x : ℕ). leb x (s .args .room)) (copies .valid-of .ensures))
-    (nothing .unless .ensures) (many .unless2 .ensures) (short .unless3 .ensures)
+    ∙ reclaim-first (state s) (s .pre .0) (s .pre .1) (victim join .victim-of .result) (victim join .victim-of .ensures) (s .args .room)
+    (stale .stale-of .result) (copies .valid-of .result) (join .if1 .fits) (nothing .unless .result) (many .unless2 .result) (short .unless3 .result)
+    (stale .stale-of .ensures) (copies .valid-of .ensures) (looked join) (nothing .unless .ensures) (many .unless2 .ensures) (short .unless3 .ensures)
 
 pub reclaim-verdict-spec : {M : Type 1} → statement M
 reclaim-verdict-spec =

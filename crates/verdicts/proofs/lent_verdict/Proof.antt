@@ -1,12 +1,20 @@
 use borrow.Author.Needs.{needs}
-use mathlib.Core.Path.{sym, _∙_}
-use mathlib.Core.Bool.{true≢false}
+use mathlib.Core.Path.{_≡_, sym, _∙_}
+use mathlib.Core.Bool.{true, true≢false}
 use mathlib.Core.Logic.{⊎-elim}
-use Rattle.rules.specs.Lent.{lent}
+use Rattle.rules.specs.Lent.{Lent, lent}
 use Rattle.rules.specs.Shape.{shaped}
+use Rattle.rules.specs.Sound.{sound}
 use Rattle.verdicts.specs.Refusals.{lent-first}
 use Rattle.verdicts.proofs.lent_verdict.Statement.{statement}
 use Rattle.verdicts.proofs.lent_verdict.Tie as tie
+
+abbrev state : tie.Joined1 → Lent
+state c = let a = c .before .before .before .before .before .args in lent (a .h) (a .ext .now) (a .blk .now) (a .spare .now)
+
+-- the second test, where it is made
+looked : (c : tie.Joined1) → c .before .shape-ok .result ≡ true → c .if1 .sound ≡ sound (state c)
+looked c e = ⊎-elim (λ w. w .2 ∙ w .1 .ensures) (λ w. absurd (true≢false (sym e ∙ w .0 .left))) (c .if1 .came)
 
 shape-ok-requires : tie.Need-shape-ok-requires
 shape-ok-requires c κs = search needs
@@ -27,14 +35,10 @@ returns : tie.Need-returns
 unfolding shaped
 returns c =
     let shape = c .before .before in
-    let sound = shape .before in
-    let ok = sound .before in
-    let a = ok .before .before .before .before .args in
+    let join = shape .before in
     c .first-of .ensures
-    ∙ lent-first (lent (a .h) (a .ext .now) (a .blk .now) (a .spare .now)) (ok .shape-ok .result) (sound .if1 .sound) (shape .unless .result) (c .before .unless2 .result)
-    (ok .shape-ok .ensures)
-    (λ e. ⊎-elim (λ w. w .2 ∙ w .1 .ensures) (λ w. absurd (true≢false (sym e ∙ w .0 .left))) (sound .if1 .came))
-    (shape .unless .ensures) (c .before .unless2 .ensures)
+    ∙ lent-first (state join) (join .before .shape-ok .result) (join .if1 .sound) (shape .unless .result) (c .before .unless2 .result)
+    (join .before .shape-ok .ensures) (looked join) (shape .unless .ensures) (c .before .unless2 .ensures)
 
 pub lent-verdict-spec : {M : Type 1} → statement M
 lent-verdict-spec =

@@ -1,9 +1,8 @@
 use borrow.Author.Needs.{needs}
 use native.Mathlib.Omega.{arith}
 use mathlib.Core.Bool.{Bool}
-use mathlib.Core.Path.{ap, ap₂, _∙_}
-use Prim.Native.Nat.{ℕ, _+_}
-use lib.Dec.{leb}
+use mathlib.Core.Path.{ap, _∙_}
+use Prim.Native.Nat.{_+_}
 use Rattle.rules.specs.Lent.{Lent, lent}
 use Rattle.rules.specs.Device.{deviceOf}
 use Rattle.rules.specs.Answers.{refuse}
@@ -23,8 +22,8 @@ abbrev start : tie.After-first-of → tie.Start
 start c = c .before .before .before .before .before .before .before
 
 -- Range, then the number
-asked : (c : tie.After-first-of)
-    → Asked (state (start c)) (start c .args .number) (outside (start c .args .l) (start c .args .n) (deviceOf (state (start c)))) (c .first-of .result)
+asked : (c : tie.After-first-of) → let s = start c in
+    Asked (state s) (s .args .number) (outside (s .args .l) (s .args .n) (deviceOf (state s))) (c .first-of .result)
 asked c =
     let s = start c in
     let range = c .before .before in
@@ -92,8 +91,8 @@ returns-2 c =
     let told = around .before .before in
     let f = told .before .before in
     let s = start f in
-    trim-last (state s) (s .pre .0) (s .pre .1) (s .args .number) (s .args .l) (s .args .n) _ (asked f) (told .enum-told .given .1) _ (c .unless2 .result)
-    (ap₂ (λ (x y : ℕ). leb (x + y) (s .args .h .slots)) (around .around .ensures .0) (around .around .ensures .1)) (c .unless2 .ensures)
+    trim-last (state s) (s .pre .0) (s .pre .1) (s .args .number) (s .args .l) (s .args .n) _ (asked f) (told .enum-told .given .1)
+    (around .around .result .before) (around .around .result .after) (c .unless2 .result) (around .around .ensures .0) (around .around .ensures .1) (c .unless2 .ensures)
 
 pub trim-verdict-spec : {M : Type 1} → statement M
 trim-verdict-spec =

@@ -3,7 +3,7 @@ use mathlib.Core.Path.{_≡_, sym, ap, _∙_}
 use mathlib.Core.Bool.{Bool, _&&_}
 use mathlib.Core.Logic.{⊎-elim}
 use native.Mathlib.Omega.{arith}
-use Prim.Native.Nat.{ℕ, _/_, _≤_}
+use Prim.Native.Nat.{_≤_}
 use lib.Dec.{leb}
 use Rattle.rules.specs.Lent.{Lent, lent}
 use Rattle.rules.specs.Device.{free, deviceOf}
@@ -22,18 +22,22 @@ state s = lent (s .args .h) (s .args .ext .now) (s .args .blk .now) (s .args .sp
 abbrev start : tie.After-first-of → tie.Start
 start c = c .before .before .before .before .before .before .before .before
 
+-- what two tests of the range come to
+both : (c : tie.Joined1) → let a = c .before .before .before .before .before .args in c .if1 .inside ≡ (c .before .in-range .result && leb (a .n) (a .h .pages))
+both c =
+    let a = c .before .before .before .before .before .args in
+    let also : Bool → Bool = λ t. t && leb (a .n) (a .h .pages) in
+    ⊎-elim (λ w. w .2 ∙ sym (ap also (w .0 .taken))) (λ w. w .1 ∙ w .0 .left ∙ sym (ap also (w .0 .left))) (c .if1 .came)
+
 -- Range, then the number
-asked : (c : tie.After-first-of)
-    → Asked (state (start c)) (start c .args .number) (outOrLong (state (start c)) (start c .pre .0) (start c .pre .1) (start c .args .l) (start c .args .n)) (c .first-of .result)
+asked : (c : tie.After-first-of) → let s = start c in
+    Asked (state s) (s .args .number) (outOrLong (state s) (s .pre .0) (s .pre .1) (s .args .l) (s .args .n)) (c .first-of .result)
 asked c =
     let s = start c in
     let range = c .before .before in
     let join = range .before in
-    let t = join .before .in-range .result in
-    let also : Bool → Bool = λ x. x && leb (s .args .n) (s .args .h .pages) in
-    let both : join .if1 .inside ≡ also t =
-    ⊎-elim (λ w. w .2 ∙ sym (ap also (w .0 .taken))) (λ w. w .1 ∙ w .0 .left ∙ sym (ap also (w .0 .left))) (join .if1 .came) in
-    let out = is-out-or-long (state s) (s .pre .0) (s .pre .1) (s .args .l) (s .args .n) t (join .if1 .inside) (join .before .in-range .ensures) both in
+    let i = join .before in
+    let out = is-out-or-long (state s) (s .pre .0) (s .pre .1) (s .args .l) (s .args .n) (i .in-range .result) (join .if1 .inside) (i .in-range .ensures) (both join) in
     record {
       range = range .unless .result;
       number = c .before .number-verdict .result;
@@ -120,9 +124,8 @@ returns-3 c =
     let w = writable (state s) (s .pre .0) (s .pre .1) (s .args .number) (s .args .l) (s .args .n) (s .args .room) _ (asked f) (told .enum-told .given .1) enough in
     c .first-of2 .ensures
     ∙ write-last (state s) (s .pre .0) (s .pre .1) (s .args .number) (s .args .l) (s .args .n) (s .args .room) _ (asked f) (told .enum-told .given .1) enough
-    _ _ (many .unless2 .result) (c .before .unless3 .result)
-    (ap (λ (x : ℕ). leb x (s .args .h .slots)) (nodes .nodes-after .ensures))
-    (ap (λ (x : ℕ). leb x (s .args .room / 3)) (pieces-are (s .args .l) (s .args .n) (state s) w _ (pieces .pieces-of .ensures (s .args .l))))
+    (nodes .nodes-after .result) (pieces .pieces-of .result) (many .unless2 .result) (c .before .unless3 .result)
+    (nodes .nodes-after .ensures) (pieces-are (s .args .l) (s .args .n) (state s) w _ (pieces .pieces-of .ensures (s .args .l)))
     (many .unless2 .ensures) (c .before .unless3 .ensures)
 
 pub write-verdict-spec : {M : Type 1} → statement M
