@@ -55,19 +55,18 @@ lowered-same n l e x blk h = record {
 }
 
 -- as the code takes it from its block
-pub lowered-set : (n l e b c w : ℕ) (x : Extent) (blk blk′ : List ℕ) → b ≡ x .physical / n → c ≡ overlap x l e → w ≡ validWord blk b
-    → stride * b + 1 < length blk → c ≤ w → blk′ ≡ set blk (stride * b + 1) (w - c) → Lowered n l e (x ∷ []) blk blk′
-lowered-set n l e b c w x blk blk′ p q y s h g =
+pub lowered-set : (n l e b c w v : ℕ) (x : Extent) (blk blk′ : List ℕ) → b ≡ x .physical / n → c ≡ overlap x l e → w ≡ validWord blk b
+    → stride * b + 1 < length blk → c ≤ w → v ≡ w - c → blk′ ≡ set blk (stride * b + 1) v → Lowered n l e (x ∷ []) blk blk′
+lowered-set n l e b c w v x blk blk′ p q y s h d g =
     let at = stride * b + 1 in
-    let v = w - c in
     record {
       size = ap length g ∙ length-set blk at v;
-      fills = λ d. ap (λ (ws : List ℕ). fillWord ws d) g ∙ getD-set-other blk at (stride * d) v 0 (omega arith);
-      valids = λ d. by-cases (ℕ-discrete b d)
+      fills = λ i. ap (λ (ws : List ℕ). fillWord ws i) g ∙ getD-set-other blk at (stride * i) v 0 (omega arith);
+      valids = λ i. by-cases (ℕ-discrete b i)
           (λ k. let r : validWord blk′ b ≡ v = ap (λ (ws : List ℕ). validWord ws b) g ∙ getD-set-same blk at v 0 s in
           rw (← k) (omega (arith, r, single n b l e x, in-block n b l e x (sym p))))
-          (λ k. let r : validWord blk′ d ≡ validWord blk d = ap (λ (ws : List ℕ). validWord ws d) g ∙ getD-set-other blk at (stride * d + 1) v 0 (omega arith) in
-          omega (arith, r, single n d l e x, elsewhere n d l e x (λ m. k (p ∙ m))));
+          (λ k. let r : validWord blk′ i ≡ validWord blk i = ap (λ (ws : List ℕ). validWord ws i) g ∙ getD-set-other blk at (stride * i + 1) v 0 (omega arith) in
+          omega (arith, r, single n i l e x, elsewhere n i l e x (λ m. k (p ∙ m))));
     }
 
 -- ---- slot by slot

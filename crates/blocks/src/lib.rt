@@ -1,6 +1,6 @@
 // The valid counts of the blocks, changed in place: what they lose where a range is cut out of the extents.
 ghost use mathlib.Core.Path.{_≡_};
-ghost use Prim.Native.Nat.{_+_, _*_, _/_, _<_, _≤_, min, max};
+ghost use Prim.Native.Nat.{_+_, _-_, _*_, _/_, _<_, _≤_, min, max};
 ghost use mathlib.Core.List.{[], _∷_};
 ghost use lib.ListN.{length};
 ghost use Rattle.rules.specs.Extents.{slot, slots};
@@ -40,6 +40,14 @@ fn overlap_of(ext: &[u32], i: usize, l: u32, e: u32) -> u32
     stop - start
 }
 
+// A valid count without the pages that are gone, each of them struck off once.
+fn without(valid: u32, gone: u32) -> u32
+    requires { ⌜ gone ≤ valid ⌝ }
+    ensures { λ r. ⌜ r ≡ valid - gone ⌝ }
+{
+    valid - gone
+}
+
 // The block of slot i loses the slot's pages from l up to e.
 fn lower_slot(ext: &[u32], i: usize, pages: u32, l: u32, e: u32, blk: &mut [u32])
     requires { ⌜ (3 * i + 2 < length (now ext)) × (0 < pages) × (stride * (slot (now ext) i .physical / pages) + 1 < length (now blk)) × (overlap (slot (now ext) i) l e ≤ validWord (now blk) (slot (now ext) i .physical / pages)) ⌝ }
@@ -52,7 +60,7 @@ fn lower_slot(ext: &[u32], i: usize, pages: u32, l: u32, e: u32, blk: &mut [u32]
     let at = 3 * i;
     let b = (ext[at + 1] / pages) as usize;
     let valid = words::valid_of(blk, b);
-    words::put_valid(blk, b, valid - gone);
+    words::put_valid(blk, b, without(valid, gone));
 }
 
 // Each block loses the pages that extents in use have in it from l up to e.

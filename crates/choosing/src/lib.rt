@@ -12,7 +12,7 @@ ghost use Rattle.choosing.specs.Covered.{covered};
 ghost use Rattle.choosing.specs.Ranks.{Ranks, rises, marked, Marks, sums};
 ghost use Rattle.choosing.specs.Sources.{livePages};
 
-fn stale_of(blk: &[u32], b: usize) -> u32
+pub fn stale_of(blk: &[u32], b: usize) -> u32
     requires { ⌜ (stride * b + 1 < length (now blk)) × (validWord (now blk) b ≤ fillWord (now blk) b) ⌝ }
     ensures { λ s. ⌜ s ≡ staleWord (now (blk .entry)) b ⌝ }
 {

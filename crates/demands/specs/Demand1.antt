@@ -48,9 +48,9 @@ given c s Refusal.OutShort = ltb (length (buffer c)) (length (lists c (deviceOf 
 given c s Refusal.NothingStale = eqb (stale (deviceOf s)) 0
 
 -- the first that applies is given, by its number, and none otherwise: 0
-unfoldable pub firstOf : List Refusal → (Refusal → Bool) → ℕ
-firstOf [] applies = 0
-firstOf (r ∷ rs) applies = cond (applies r) (number r) (firstOf rs applies)
+unfoldable pub firstGiven : List Refusal → (Refusal → Bool) → ℕ
+firstGiven [] applies = 0
+firstGiven (r ∷ rs) applies = cond (applies r) (number r) (firstGiven rs applies)
 
 -- ---- a call on a lent state
 
@@ -62,7 +62,7 @@ pub record Untouched (c : Call) (s : Lent) (o : Outcome Lent) : Type 0 where
 
 -- outcome o answers call c on state s
 pub record Answers (c : Call) (s : Lent) (o : Outcome Lent) : Type 0 where
-  pub refusal : o .refusal ≡ firstOf (order c) (given c s)
+  pub refusal : o .refusal ≡ firstGiven (order c) (given c s)
   pub refused : (o .refusal ≡ 0 → ⊥) → Untouched c s o
   -- accepted: counts, state and answer are those of the plain device of s
   pub accepted : o .refusal ≡ 0 → o ≡ acceptedOn c s

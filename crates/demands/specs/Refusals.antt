@@ -29,7 +29,7 @@ use Rattle.laws.specs.Slots.{flat-length}
 use Rattle.laws.specs.Placed.{puts-slots}
 use Rattle.laws.specs.States.{device-lines}
 use Rattle.laws.specs.Kept.{call-verdict}
-use Rattle.demands.specs.Demand1.{order, given, firstOf, Untouched, Answers, FreshAnswers}
+use Rattle.demands.specs.Demand1.{order, given, firstGiven, Untouched, Answers, FreshAnswers}
 
 -- ---- the table
 
@@ -80,8 +80,8 @@ module _ (s : Lent) where
   short : (out : List ℕ) (es : List Extent) → ltb (length out) (3 * length es) ≡ ltb (length out) (length (flat es))
   short out es = ap (ltb (length out)) (sym (flat-length es))
 
-  first : (c : Call) → verdict c s ≡ firstOf (order c) (given c s)
-  unfolding verdict refusal writeRefusal trimRefusal readRefusal reclaimRefusal firstOf leaves lists
+  first : (c : Call) → verdict c s ≡ firstGiven (order c) (given c s)
+  unfolding verdict refusal writeRefusal trimRefusal readRefusal reclaimRefusal firstGiven leaves lists
   first (Call.write k l n out) =
       row Refusal.Shape refl (row Refusal.Damaged refl (row Refusal.Range (ranged-write l n) (number-row k
       (row Refusal.NoPages refl (row Refusal.NoNodes (many-write k l n) (row Refusal.OutShort (short out (pieces l n d)) refl))))))

@@ -32,7 +32,7 @@ use Rattle.laws.specs.Kept.{refuse-none, taken, keeps, device-good, device-is, 
 use Rattle.demands.specs.Flash.{Cell}
 use Rattle.demands.specs.Host.{Ask, ops, doing, marking, World, step, run, begin}
 use Rattle.demands.specs.Requests.{carries, isWrite, numberOf, startOf, countOf, again}
-use Rattle.demands.specs.Demand1.{order, given, firstOf}
+use Rattle.demands.specs.Demand1.{order, given, firstGiven}
 use Rattle.demands.specs.Once.{Nothing, repeats, noted, once, held, AppliedOnce}
 use Rattle.demands.specs.Refusals.{refused-untouched, answers}
 use Rattle.demands.specs.Steps.{either, leaves-pages, call-pages, call-last}
@@ -93,8 +93,8 @@ run-fine (a ∷ asks) w f = run-fine asks (step a w) (call-fine (a .request) (w 
 
 -- Range, and then the number
 first-used : (c : Call) (s : Lent) → carries c ≡ true → Fine s → leb (numberOf c) (s .head .last) ≡ true
-    → firstOf (order c) (given c s) ≡ cond (given c s Refusal.Range) (number Refusal.Range) (number Refusal.Applied)
-unfolding firstOf
+    → firstGiven (order c) (given c s) ≡ cond (given c s Refusal.Range) (number Refusal.Range) (number Refusal.Applied)
+unfolding firstGiven
 first-used (Call.write k l n out) s e f h = rw (f .0, f .1, h)
 first-used (Call.trim k l n) s e f h = rw (f .0, f .1, h)
 first-used (Call.read l n out) s e f h = absurd (false≢true e)
@@ -176,8 +176,8 @@ again-number (Call.reclaim out) new = refl
 again-number Call.report new = refl
 
 -- an accepted write or trim is in range
-first-range : (c : Call) (s : Lent) → carries c ≡ true → firstOf (order c) (given c s) ≡ 0 → given c s Refusal.Range ≡ false
-unfolding firstOf refuse
+first-range : (c : Call) (s : Lent) → carries c ≡ true → firstGiven (order c) (given c s) ≡ 0 → given c s Refusal.Range ≡ false
+unfolding firstGiven refuse
 first-range (Call.write k l n out) s e h =
     let a = refuse-none (given (Call.write k l n out) s Refusal.Shape) Refusal.Shape _ h in
     let b = refuse-none (given (Call.write k l n out) s Refusal.Damaged) Refusal.Damaged _ (a .1) in

@@ -1,10 +1,13 @@
 -- A reclaim's verdict, from the tests that the code makes.
 use Prim.Native.Nat.{ℕ, _+_, _*_, _%_, _≤_, _<_}
-use mathlib.Core.Path.{_≡_, refl, sym, ap, _∙_}
+use mathlib.Core.Bool.{Bool, true, false, not}
+use mathlib.Core.Path.{_≡_, refl, sym, ap, ap₂, _∙_}
 use mathlib.Core.List.{List}
+use mathlib.Core.Logic.{by-cases}
 use native.Mathlib.Omega.{arith}
-use borrow.Author.Tests.{eq-eqb, ne-eqb, lt-ltb, le-ltb}
-use lib.Dec.{eqb, ltb}
+use native.Mathlib.Decide.{decLt}
+use borrow.Author.Tests.{eq-eqb, ne-eqb, eqb-false, lt-ltb, le-ltb, not-false}
+use lib.Dec.{eqb, ltb, leb}
 use lib.ListN.{length, length-replicate}
 use Rattle.rules.specs.Counting.{most}
 use Rattle.rules.specs.Extents.{none, slot}
@@ -18,17 +21,18 @@ use Rattle.rules.specs.declared.Head.{Head}
 use Rattle.rules.specs.declared.Extent.{Extent}
 use Rattle.rules.specs.declared.Refusal.{Refusal}
 use Rattle.laws.specs.Cells.{block-le}
+use Rattle.laws.specs.Sums.{sum-zero, zero-sum}
+use Rattle.laws.specs.Picks.{most-lt, most-top}
 use Rattle.laws.specs.Sane.{Shaped, Sane}
 use Rattle.laws.specs.Shapes.{pages-fit}
 use Rattle.laws.specs.States.{device-blocks, device-fill, extents-in-use, sane-good, valid-in-use}
 use Rattle.laws.specs.Reclaimed.{Chosen, length-sources, victim-chosen}
-use Rattle.counts.specs.Totals.{Totalled, device-stale}
-use Rattle.counts.specs.declared.Totals.{Totals}
+use Rattle.counts.specs.Totals.{sane-filled, device-stale}
 use Rattle.choosing.specs.Stale.{staleWord}
 use Rattle.reclaiming.specs.Remapped.{remapped}
 use Rattle.reclaiming.specs.Reclaims.{rows-inside, victim-words, remapped-extents}
-use Rattle.counts.specs.Totals.{sane-filled}
-use Rattle.verdicts.specs.Refusals.{roomed, refuse-here, refuse-later}
+use Rattle.verdicts.specs.Refusals.{told, firstOf, roomed, over-not, first-then}
+use Rattle.verdicts.specs.declared.Verdict.{Verdict}
 
 -- what a walk over the slots asks of them and of the reserve that the victim goes to
 pub record Walkable (h : Head) (ext : List ℕ) : Type 0 where
@@ -58,26 +62,29 @@ module _ (s : Lent) (h : Shaped s) (z : Sane s) where
       ap (λ (k : ℕ). most k (staleWord (s .blocks))) (sym (device-blocks s))
       ∙ victim-words (deviceOf s) (sane-good s h z .sound) (s .blocks) (λ b p. sym (device-fill s b (inside b p))) (λ b p. sym (valid-in-use s h z b (inside b p)))
 
-  module _ (room : ℕ) (t : Totals) (w : Totalled (s .head) (s .blocks) t) where
-    is-stale : t .stale ≡ stale (deviceOf s)
-    is-stale = w .stale ∙ sym (device-stale s h z)
+  module _ (v : ℕ) (f : v ≡ most (s .head .blocks) (staleWord (s .blocks))) where
+    victim-is : v ≡ victim (deviceOf s)
+    victim-is = f ∙ found-victim
 
-    pub reclaim-nothing : t .stale ≡ 0 → number Refusal.NothingStale ≡ reclaimRefusal (roomed room) (deviceOf s)
-    unfolding reclaimRefusal
-    reclaim-nothing e = sym (refuse-here (eqb (stale (deviceOf s)) 0) Refusal.NothingStale _ (eq-eqb (stale (deviceOf s)) 0 (sym is-stale ∙ e)))
+    victim-inside : v < s .head .blocks
+    victim-inside = omega (arith, f, most-lt (s .head .blocks) (staleWord (s .blocks)) (omega (arith, z .kept)))
 
-    module _ (e : t .stale ≡ 0 → ⊥) (v : ℕ) (f : v ≡ most (s .head .blocks) (staleWord (s .blocks))) where
-      victim-is : v ≡ victim (deviceOf s)
-      victim-is = f ∙ found-victim
+    pub victim-record : (stride * v + 1 < length (s .blocks)) × (validWord (s .blocks) v ≤ fillWord (s .blocks) v)
+    victim-record = (omega (arith, victim-inside, h .blocks), sane-filled s h z .valid v victim-inside)
 
+    -- 8: the victim has no stale page
+    is-nothing : (i : ℕ) → i ≡ staleWord (s .blocks) v → not (ltb 0 i) ≡ eqb (stale (deviceOf s)) 0
+    is-nothing i e =
+        let w = staleWord (s .blocks) in
+        let n = s .head .blocks in
+        let all = device-stale s h z in
+        by-cases (decLt 0 i)
+        (λ g. ap not (lt-ltb 0 i g) ∙ sym (ne-eqb (stale (deviceOf s)) 0 (λ o. omega (arith, zero-sum n w (sym all ∙ o) v victim-inside))))
+        (λ g. ap not (le-ltb 0 i (omega arith)) ∙ sym (eq-eqb (stale (deviceOf s)) 0 (all ∙ sum-zero n w (λ b o. omega (arith, most-top n w b o, ap w f)))))
+
+    module _ (some : 0 < stale (deviceOf s)) where
       chosen : Chosen (deviceOf s) (victim (deviceOf s))
-      chosen = victim-chosen (deviceOf s) (sane-good s h z .sound) (omega (arith, is-stale))
-
-      victim-inside : v < s .head .blocks
-      victim-inside = omega (arith, chosen .inside, victim-is, device-blocks s)
-
-      pub victim-record : stride * v + 1 < length (s .blocks)
-      victim-record = omega (arith, victim-inside, h .blocks)
+      chosen = victim-chosen (deviceOf s) (sane-good s h z .sound) some
 
       -- the extents afterwards
       nodes : length (remapped (s .head .pages) v (s .head .reserve) (inUse s)) ≡ length (extents (reclaimed (deviceOf s)))
@@ -94,32 +101,21 @@ module _ (s : Lent) (h : Shaped s) (z : Sane s) where
           ∙ sym (length-sources (deviceOf s) (sane-good s h z .sound) (victim (deviceOf s)) (chosen .inside) (chosen .other)
           ∙ valid-in-use s h z (victim (deviceOf s)) (omega (arith, chosen .inside, device-blocks s)))
 
-      many : reclaimed (deviceOf s) .slots ≡ s .head .slots
-      unfolding reclaimed reclaimedAt deviceOf
-      many = refl
+    many : reclaimed (deviceOf s) .slots ≡ s .head .slots
+    unfolding reclaimed reclaimedAt deviceOf
+    many = refl
 
-      module _ (k : ℕ) (g : k ≡ length (remapped (s .head .pages) v (s .head .reserve) (inUse s))) where
-        some : reclaimRefusal (roomed room) (deviceOf s)
-            ≡ refuse (tooMany (reclaimed (deviceOf s))) Refusal.NoNodes (refuse (ltb (length (roomed room)) (length (sources (victim (deviceOf s)) (deviceOf s)))) Refusal.OutShort 0)
-        unfolding reclaimRefusal
-        some = refuse-later (eqb (stale (deviceOf s)) 0) Refusal.NothingStale _ (ne-eqb (stale (deviceOf s)) 0 (λ q. e (is-stale ∙ q)))
-
-        pub reclaim-many : s .head .slots < k → number Refusal.NoNodes ≡ reclaimRefusal (roomed room) (deviceOf s)
-        unfolding tooMany
-        reclaim-many m =
-            sym (some ∙ refuse-here _ Refusal.NoNodes _ (lt-ltb (reclaimed (deviceOf s) .slots) (length (extents (reclaimed (deviceOf s)))) (omega (arith, many, nodes))))
-
-        module _ (m : k ≤ s .head .slots) (c : ℕ) (i : c ≡ validWord (s .blocks) v) where
-          last : reclaimRefusal (roomed room) (deviceOf s) ≡ refuse (ltb room c) Refusal.OutShort 0
-          unfolding tooMany
-          last =
-              some
-              ∙ refuse-later _ Refusal.NoNodes _ (le-ltb (reclaimed (deviceOf s) .slots) (length (extents (reclaimed (deviceOf s)))) (omega (arith, many, nodes)))
-              ∙ ap (λ (x : ℕ). refuse (ltb x (length (sources (victim (deviceOf s)) (deviceOf s)))) Refusal.OutShort 0) (length-replicate {A = ℕ} room 0)
-              ∙ ap (λ (x : ℕ). refuse (ltb room x) Refusal.OutShort 0) (sym (i ∙ copies))
-
-          pub reclaim-short : room < c → number Refusal.OutShort ≡ reclaimRefusal (roomed room) (deviceOf s)
-          reclaim-short q = sym (last ∙ refuse-here _ Refusal.OutShort 0 (lt-ltb room c q))
-
-          pub reclaim-passes : c ≤ room → 0 ≡ reclaimRefusal (roomed room) (deviceOf s)
-          reclaim-passes q = sym (last ∙ refuse-later _ Refusal.OutShort 0 (le-ltb room c q))
+    -- by three tests, of which the second is made where the first is passed
+    pub reclaim-first : (room i j : ℕ) (u : Bool) (a b c : Verdict) → i ≡ staleWord (s .blocks) v → j ≡ validWord (s .blocks) v
+        → (ltb 0 i ≡ true → u ≡ leb (length (remapped (s .head .pages) v (s .head .reserve) (inUse s))) (s .head .slots))
+        → told a ≡ refuse (not (ltb 0 i)) Refusal.NothingStale 0 → told b ≡ refuse (not u) Refusal.NoNodes 0
+        → told c ≡ refuse (not (leb j room)) Refusal.OutShort 0 → firstOf a (firstOf b (told c)) ≡ reclaimRefusal (roomed room) (deviceOf s)
+    unfolding reclaimRefusal tooMany
+    reclaim-first room i j u a b c e f look p q r =
+        first-then a Refusal.NothingStale p (is-nothing i e)
+        (λ g. let some : 0 < stale (deviceOf s) = omega (arith, eqb-false (stale (deviceOf s)) 0 g) in
+        let k = length (remapped (s .head .pages) v (s .head .reserve) (inUse s)) in
+        first-then b Refusal.NoNodes q
+        (ap not (look (not-false (ltb 0 i) (is-nothing i e ∙ g))) ∙ over-not k (s .head .slots) ∙ ap₂ ltb (sym many) (nodes some))
+        (λ o. r ∙ ap (λ (x : Bool). refuse x Refusal.OutShort 0)
+        (over-not j room ∙ ap₂ ltb (sym (length-replicate {A = ℕ} room 0)) (f ∙ copies some))))

@@ -23,22 +23,19 @@ pub fn nodes_after_reclaim(h: Head, ext: &[u32], v: u32) -> usize
     reclaiming::joined_of(ext, used, h.pages, v, h.reserve, &ranks)
 }
 
-// 8, 6 and 7 of a reclaim, of a sound state.
+// 8, 6 and 7 of a reclaim, of a sound state. The victim has most stale pages: where it has none, no page is stale.
 pub fn reclaim_verdict(h: Head, ext: &[u32], blk: &[u32], spare: &[u32], room: usize) -> Verdict
     requires { ⌜ Shaped (lent h (now ext) (now blk) (now spare)) × Sane (lent h (now ext) (now blk) (now spare)) ⌝ }
     ensures { λ v. ⌜ told v ≡ reclaimRefusal (roomed room) (deviceOf (lent h (now (ext .entry)) (now (blk .entry)) (now (spare .entry)))) ⌝ }
 {
-    let totals = counts::totals_of(h, blk);
-    if totals.stale == 0 {
-        return Verdict::Refused(Refusal::NothingStale);
-    }
     let v = choosing::victim_of(blk, h.blocks);
-    if (h.slots as usize) < nodes_after_reclaim(h, ext, v) {
-        return Verdict::Refused(Refusal::NoNodes);
-    }
+    let stale = choosing::stale_of(blk, v as usize);
     let copies = words::valid_of(blk, v as usize);
-    if room < copies as usize {
-        return Verdict::Refused(Refusal::OutShort);
-    }
-    Verdict::Accepted
+    let gains = 0 < stale;
+    let fits = gains && nodes_after_reclaim(h, ext, v) <= h.slots as usize;
+    let listed = (copies as usize) <= room;
+    let nothing = verdicts::unless(gains, Refusal::NothingStale);
+    let many = verdicts::unless(fits, Refusal::NoNodes);
+    let short = verdicts::unless(listed, Refusal::OutShort);
+    verdicts::first_of(nothing, verdicts::first_of(many, short))
 }

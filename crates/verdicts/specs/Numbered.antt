@@ -1,7 +1,7 @@
 -- The test of a number, by the head that was given. What it is, the rules say; here it is read off the words.
 use Prim.Native.Nat.{ℕ, _≤_, _<_}
 use mathlib.Core.Path.{_≡_, refl, sym, ap, _∙_}
-use mathlib.Core.Bool.{true, false}
+use mathlib.Core.Bool.{Bool, false}
 use borrow.Author.Tests.{le-leb, lt-leb}
 use lib.Dec.{leb}
 use Rattle.rules.specs.Lent.{Lent}
@@ -10,7 +10,8 @@ use Rattle.rules.specs.Number.{applied, judged}
 use Rattle.rules.specs.Answers.{number, refuse}
 use Rattle.rules.specs.declared.Head.{Head}
 use Rattle.rules.specs.declared.Refusal.{Refusal}
-use Rattle.verdicts.specs.Refusals.{told, refuse-here, refuse-later, number-some}
+use Rattle.laws.specs.Kept.{refuse-none}
+use Rattle.verdicts.specs.Refusals.{told, firstOf, refuse-here, refuse-later, first-refuse, first-both, first-then}
 use Rattle.verdicts.specs.declared.Verdict.{Verdict}
 
 -- 4, or 0
@@ -26,19 +27,31 @@ unfolding numberRefusal
 number-new h k e = sym (refuse-later (leb k (h .last)) Refusal.Applied 0 (lt-leb k (h .last) e))
 
 -- what it tells of the rules' test, wherever that stands in the order
-module _ (s : Lent) (k : ℕ) (v : Verdict) (e : told v ≡ numberRefusal (s .head) k) where
-  pub number-refuses : (r : Refusal) (later : ℕ) → v ≡ Verdict.Refused r → number r ≡ judged k (deviceOf s) later
-  unfolding numberRefusal judged applied deviceOf
-  number-refuses r later f = go (leb k (s .head .last)) (sym (ap told f) ∙ e)
-    where
-      go : (b : mathlib.Core.Bool.Bool) → number r ≡ refuse b Refusal.Applied 0 → number r ≡ refuse b Refusal.Applied later
-      go true g = unfold refuse in g
-      go false g = absurd (number-some r (unfold refuse in g))
+number-first : (s : Lent) (k : ℕ) (v : Verdict) → told v ≡ numberRefusal (s .head) k → (later : ℕ) → firstOf v later ≡ judged k (deviceOf s) later
+unfolding numberRefusal judged applied deviceOf
+number-first s k v e later = first-refuse v (leb k (s .head .last)) Refusal.Applied e later
 
-  pub number-passes : (later : ℕ) → v ≡ Verdict.Accepted → judged k (deviceOf s) later ≡ later
-  unfolding numberRefusal judged applied deviceOf
-  number-passes later f = go (leb k (s .head .last)) (sym (ap told f) ∙ e)
-    where
-      go : (b : mathlib.Core.Bool.Bool) → 0 ≡ refuse b Refusal.Applied 0 → refuse b Refusal.Applied later ≡ later
-      go true g = absurd (number-some Refusal.Applied (sym (unfold refuse in g)))
-      go false g = unfold refuse in refl
+-- ---- 3, then 4, as a write and a trim are tested
+
+-- v is the first refusal of the two; x is the rules' test of the range
+pub record Asked (s : Lent) (k : ℕ) (x : Bool) (v : Verdict) : Type 0 where
+  pub range : Verdict
+  pub number : Verdict
+  pub range-is : told range ≡ refuse x Refusal.Range 0
+  pub number-is : told number ≡ numberRefusal (s .head) k
+  pub first : told v ≡ firstOf range (told number)
+
+module _ (s : Lent) (k : ℕ) (x : Bool) (v : Verdict) (a : Asked s k x v) where
+  asked : (later : ℕ) → firstOf v later ≡ refuse x Refusal.Range (judged k (deviceOf s) later)
+  asked later =
+      first-both v (a .range) (a .number) (a .first) later
+      ∙ first-then (a .range) Refusal.Range (a .range-is) refl (λ g. number-first s k (a .number) (a .number-is) later)
+
+  pub asked-refuses : (r : Refusal) (later : ℕ) → v ≡ Verdict.Refused r → number r ≡ refuse x Refusal.Range (judged k (deviceOf s) later)
+  asked-refuses r later g = sym (ap (λ (w : Verdict). firstOf w later) g) ∙ asked later
+
+  pub asked-passes : (later : ℕ) → v ≡ Verdict.Accepted → refuse x Refusal.Range (judged k (deviceOf s) later) ≡ later
+  asked-passes later g = sym (asked later) ∙ ap (λ (w : Verdict). firstOf w later) g
+
+  pub asked-inside : v ≡ Verdict.Accepted → x ≡ false
+  asked-inside g = refuse-none x Refusal.Range (judged k (deviceOf s) 0) (asked-passes 0 g) .0

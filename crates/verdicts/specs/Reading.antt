@@ -1,11 +1,13 @@
 -- A read's verdict, from the tests that the code makes.
-use Prim.Native.Nat.{ℕ, _+_, _*_, _≤_, _<_}
+use Prim.Native.Nat.{ℕ, _+_, _*_, _/_, _≤_, _<_}
 use mathlib.Core.Bool.{Bool, true, false, not, _||_}
-use mathlib.Core.Path.{_≡_, refl, sym, ap, _∙_}
+use mathlib.Core.Path.{_≡_, refl, sym, ap, ap₂, _∙_}
 use mathlib.Core.List.{List}
+use mathlib.Core.Logic.{by-cases}
 use native.Mathlib.Omega.{arith}
-use borrow.Author.Tests.{lt-ltb, le-ltb, ltb-false, eqb-false}
-use lib.Dec.{eqb, ltb}
+use native.Mathlib.Decide.{decLt}
+use borrow.Author.Tests.{lt-ltb, le-ltb, ltb-false, eqb-false, le-leb, lt-leb, not-false}
+use lib.Dec.{eqb, ltb, leb}
 use lib.ListN.{length, replicate, length-replicate}
 use Rattle.rules.specs.Extents.{none}
 use Rattle.rules.specs.Lent.{Lent, inUse}
@@ -21,7 +23,8 @@ use Rattle.laws.specs.Sane.{Shaped, Sane}
 use Rattle.laws.specs.States.{device-lines, extents-in-use, sane-good, table-lines}
 use Rattle.reading.specs.Walk.{between}
 use Rattle.map.specs.Sound.{Sound}
-use Rattle.verdicts.specs.Refusals.{roomed, refuse-here, refuse-later}
+use Rattle.verdicts.specs.Refusals.{told, firstOf, roomed, first-then}
+use Rattle.verdicts.specs.declared.Verdict.{Verdict}
 
 -- a range that is not outside
 pub range-fits : (l n top : ℕ) → (eqb n 0 || ltb top (l + n)) ≡ false → (0 < n) × (l + n ≤ top)
@@ -30,11 +33,24 @@ range-fits l n top e =
     let some = eqb-false n 0 (t .0) in
     (omega arith, ltb-false top (l + n) (t .1))
 
+-- 3 words a piece
+pub short-words : (room k : ℕ) → not (leb k (room / 3)) ≡ ltb room (3 * k)
+short-words room k =
+    by-cases (decLt room (3 * k))
+    (λ e. ap not (lt-leb k (room / 3) (omega arith)) ∙ sym (lt-ltb room (3 * k) e))
+    (λ e. ap not (le-leb k (room / 3) (omega arith)) ∙ sym (le-ltb room (3 * k) (omega arith)))
+
 module _ (s : Lent) (h : Shaped s) (z : Sane s) where
   -- what the code's range test says, of the state's device
-  pub outside-words : (l n : ℕ) (t : Bool) → t ≡ (eqb n 0 || ltb (s .head .logical) (l + n)) → outside l n (deviceOf s) ≡ t
+  outside-words : (l n : ℕ) → outside l n (deviceOf s) ≡ (eqb n 0 || ltb (s .head .logical) (l + n))
   unfolding outside
-  outside-words l n t e = ap (λ (m : ℕ). eqb n 0 || ltb m (l + n)) (device-lines s) ∙ sym e
+  outside-words l n = ap (λ (m : ℕ). eqb n 0 || ltb m (l + n)) (device-lines s)
+
+  pub is-outside : (l n : ℕ) (t : Bool) → not t ≡ (eqb n 0 || ltb (s .head .logical) (l + n)) → not t ≡ outside l n (deviceOf s)
+  is-outside l n t e = e ∙ sym (outside-words l n)
+
+  pub inside-words : (l n : ℕ) → outside l n (deviceOf s) ≡ false → (0 < n) × (l + n ≤ s .head .logical)
+  inside-words l n e = range-fits l n (s .head .logical) (sym (outside-words l n) ∙ e)
 
   pub rows-sound : Sound (inUse s)
   rows-sound = record { pages = s .head .pages; logical = s .head .logical; rows = z .rows }
@@ -46,23 +62,13 @@ module _ (s : Lent) (h : Shaped s) (z : Sane s) where
       found-window l n (deviceOf s) (g .sound .some) (omega (arith, device-lines s)) (table-lines (deviceOf s) (g .sound))
       ∙ ap (between l (l + n)) (extents-in-use s h z)
 
-  module _ (l n room : ℕ) where
-    pub read-range : (t : Bool) → t ≡ (eqb n 0 || ltb (s .head .logical) (l + n)) → t ≡ true → number Refusal.Range ≡ readRefusal l n (roomed room) (deviceOf s)
-    unfolding readRefusal
-    read-range t e f = sym (refuse-here (outside l n (deviceOf s)) Refusal.Range _ (outside-words l n t e ∙ f))
-
-    later : (t : Bool) → t ≡ (eqb n 0 || ltb (s .head .logical) (l + n)) → t ≡ false → l + n ≤ s .head .logical
-        → readRefusal l n (roomed room) (deviceOf s) ≡ refuse (ltb room (3 * length (between l (l + n) (inUse s)))) Refusal.OutShort 0
-    unfolding readRefusal
-    later t e f i =
-        refuse-later (outside l n (deviceOf s)) Refusal.Range _ (outside-words l n t e ∙ f)
-        ∙ ap (λ (x : ℕ). refuse (ltb x (3 * length (found l n (deviceOf s)))) Refusal.OutShort 0) (length-replicate {A = ℕ} room 0)
-        ∙ ap (λ (es : List Extent). refuse (ltb room (3 * length es)) Refusal.OutShort 0) (found-words l n i)
-
-    pub read-short : (t : Bool) → t ≡ (eqb n 0 || ltb (s .head .logical) (l + n)) → t ≡ false → l + n ≤ s .head .logical
-        → room < 3 * length (between l (l + n) (inUse s)) → number Refusal.OutShort ≡ readRefusal l n (roomed room) (deviceOf s)
-    read-short t e f i k = sym (later t e f i ∙ refuse-here _ Refusal.OutShort 0 (lt-ltb room (3 * length (between l (l + n) (inUse s))) k))
-
-    pub read-passes : (t : Bool) → t ≡ (eqb n 0 || ltb (s .head .logical) (l + n)) → t ≡ false → l + n ≤ s .head .logical
-        → 3 * length (between l (l + n) (inUse s)) ≤ room → 0 ≡ readRefusal l n (roomed room) (deviceOf s)
-    read-passes t e f i k = sym (later t e f i ∙ refuse-later _ Refusal.OutShort 0 (le-ltb room (3 * length (between l (l + n) (inUse s))) k))
+  -- by two tests, of which the second is made where the first is passed
+  pub read-first : (l n room : ℕ) (t u : Bool) (a b : Verdict) → not t ≡ (eqb n 0 || ltb (s .head .logical) (l + n))
+      → (t ≡ true → u ≡ leb (length (between l (l + n) (inUse s))) (room / 3))
+      → told a ≡ refuse (not t) Refusal.Range 0 → told b ≡ refuse (not u) Refusal.OutShort 0 → firstOf a (told b) ≡ readRefusal l n (roomed room) (deviceOf s)
+  unfolding readRefusal
+  read-first l n room t u a b e f p q =
+      first-then a Refusal.Range p (is-outside l n t e)
+      (λ g. q ∙ ap (λ (x : Bool). refuse x Refusal.OutShort 0)
+      (ap not (f (not-false t (is-outside l n t e ∙ g))) ∙ short-words room (length (between l (l + n) (inUse s)))
+      ∙ sym (ap₂ (λ (x : ℕ) (es : List Extent). ltb x (3 * length es)) (length-replicate {A = ℕ} room 0) (found-words l n (inside-words l n g .1)))))

@@ -23,6 +23,11 @@ abbrev pub told : Verdict → ℕ
 told Verdict.Accepted = 0
 told (Verdict.Refused r) = number r
 
+-- the first refusal: a verdict's, or what the later tests give
+abbrev pub firstOf : Verdict → ℕ → ℕ
+firstOf Verdict.Accepted later = later
+firstOf (Verdict.Refused r) later = number r
+
 -- 1 and 2
 unfoldable pub lentRefusal : Lent → ℕ
 lentRefusal s = refuse (not (shaped s)) Refusal.Shape (refuse (not (sound s)) Refusal.Damaged 0)
@@ -64,6 +69,33 @@ pub refuse-later : (t : Bool) (r : Refusal) (later : ℕ) → t ≡ false → re
 unfolding refuse
 refuse-later t r later e = rw e
 
+-- ---- the first refusal of several tests
+
+-- a verdict on one test, before the later ones
+pub first-refuse : (v : Verdict) (t : Bool) (r : Refusal) → told v ≡ refuse t r 0 → (later : ℕ) → firstOf v later ≡ refuse t r later
+unfolding refuse
+first-refuse Verdict.Accepted true r e later = absurd (number-some r (sym e))
+first-refuse Verdict.Accepted false r e later = refl
+first-refuse (Verdict.Refused q) true r e later = e
+first-refuse (Verdict.Refused q) false r e later = absurd (number-some q e)
+
+-- the first of two verdicts, before the later tests
+pub first-both : (v a b : Verdict) → told v ≡ firstOf a (told b) → (later : ℕ) → firstOf v later ≡ firstOf a (firstOf b later)
+first-both Verdict.Accepted Verdict.Accepted Verdict.Accepted e later = refl
+first-both Verdict.Accepted Verdict.Accepted (Verdict.Refused q) e later = absurd (number-some q (sym e))
+first-both Verdict.Accepted (Verdict.Refused q) b e later = absurd (number-some q (sym e))
+first-both (Verdict.Refused r) Verdict.Accepted Verdict.Accepted e later = absurd (number-some r e)
+first-both (Verdict.Refused r) Verdict.Accepted (Verdict.Refused q) e later = e
+first-both (Verdict.Refused r) (Verdict.Refused q) b e later = e
+
+-- a verdict on one test, and what the later ones give where it is passed
+pub first-then : (v : Verdict) {t u : Bool} (r : Refusal) {m n : ℕ} → told v ≡ refuse t r 0 → t ≡ u → (u ≡ false → m ≡ n) → firstOf v m ≡ refuse u r n
+first-then v {t} {u} r {m} {n} e f g =
+    first-refuse v t r e m ∙ ap (λ (b : Bool). refuse b r m) f
+    ∙ cases u
+    (λ h. refuse-here u r m h ∙ sym (refuse-here u r n h))
+    (λ h. refuse-later u r m h ∙ g h ∙ sym (refuse-later u r n h))
+
 -- ---- 1 and 2
 
 module _ (s : Lent) where
@@ -78,6 +110,13 @@ module _ (s : Lent) where
   pub lent-sound : shaped s ≡ true → sound s ≡ true → 0 ≡ lentRefusal s
   unfolding lentRefusal
   lent-sound e f = sym (refuse-later (not (shaped s)) Refusal.Shape _ (ap not e) ∙ refuse-later (not (sound s)) Refusal.Damaged 0 (ap not f))
+
+  -- by two tests, of which the second is made where the first is passed
+  pub lent-first : (t u : Bool) (a b : Verdict) → t ≡ shaped s → (t ≡ true → u ≡ sound s)
+      → told a ≡ refuse (not t) Refusal.Shape 0 → told b ≡ refuse (not u) Refusal.Damaged 0 → firstOf a (told b) ≡ lentRefusal s
+  unfolding lentRefusal
+  lent-first t u a b e f p q =
+      first-then a Refusal.Shape p (ap not e) (λ g. q ∙ ap (λ (x : Bool). refuse (not x) Refusal.Damaged 0) (f (e ∙ not-false (shaped s) g)))
 
 module _ (c : Call) (s : Lent) where
   pub verdict-shape : shaped s ≡ false → verdict c s ≡ number Refusal.Shape

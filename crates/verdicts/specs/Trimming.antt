@@ -1,10 +1,9 @@
 -- A trim's verdict, from the tests that the code makes.
 use Prim.Native.Nat.{ℕ, _+_, _*_, _≤_, _<_}
-use mathlib.Core.Bool.{Bool, true, false, _||_}
-use mathlib.Core.Path.{_≡_, refl, sym, ap, _∙_}
+use mathlib.Core.Bool.{Bool, not}
+use mathlib.Core.Path.{_≡_, refl, sym, ap, ap₂, _∙_}
 use native.Mathlib.Omega.{arith}
-use borrow.Author.Tests.{lt-ltb, le-ltb}
-use lib.Dec.{eqb, ltb}
+use lib.Dec.{ltb, leb}
 use lib.ListN.{length}
 use Rattle.rules.specs.Extents.{end}
 use Rattle.rules.specs.Lent.{Lent, inUse}
@@ -18,9 +17,9 @@ use Rattle.laws.specs.Counts.{startsBefore, endsAfter, tally-le}
 use Rattle.laws.specs.Slots.{slots-length}
 use Rattle.laws.specs.Growth.{trim-grows}
 use Rattle.laws.specs.States.{device-lines, extents-in-use, sane-good}
-use Rattle.verdicts.specs.Refusals.{told, refuse-here, refuse-later}
-use Rattle.verdicts.specs.Numbered.{numberRefusal, number-refuses, number-passes}
-use Rattle.verdicts.specs.Reading.{outside-words, range-fits}
+use Rattle.verdicts.specs.Refusals.{told, over-not}
+use Rattle.verdicts.specs.Numbered.{Asked, asked-refuses, asked-passes, asked-inside}
+use Rattle.verdicts.specs.Reading.{inside-words}
 use Rattle.verdicts.specs.declared.Verdict.{Verdict}
 
 -- the extents before a range and those after it are at most twice the slots
@@ -46,33 +45,20 @@ module _ (s : Lent) (h : Shaped s) (z : Sane s) (k l n : ℕ) where
   unfolding trimmed withTable deviceOf
   many = refl
 
-  module _ (t : Bool) (e : t ≡ (eqb n 0 || ltb (s .head .logical) (l + n))) where
-    pub trim-range : t ≡ true → number Refusal.Range ≡ trimRefusal k l n (deviceOf s)
+  module _ (v : Verdict) (a : Asked s k (outside l n (deviceOf s)) v) where
+    pub trim-asked : (r : Refusal) → v ≡ Verdict.Refused r → number r ≡ trimRefusal k l n (deviceOf s)
     unfolding trimRefusal
-    trim-range f = sym (refuse-here (outside l n (deviceOf s)) Refusal.Range _ (outside-words s h z l n t e ∙ f))
+    trim-asked r g = asked-refuses s k (outside l n (deviceOf s)) v a r _ g
 
-    module _ (f : t ≡ false) (v : Verdict) (g : told v ≡ numberRefusal (s .head) k) where
-      pub trim-number : (r : Refusal) → v ≡ Verdict.Refused r → number r ≡ trimRefusal k l n (deviceOf s)
-      unfolding trimRefusal
-      trim-number r i =
-          number-refuses s k v g r _ i ∙ sym (refuse-later (outside l n (deviceOf s)) Refusal.Range _ (outside-words s h z l n t e ∙ f))
+    module _ (g : v ≡ Verdict.Accepted) where
+      pub trim-inside : (0 < n) × (l + n ≤ s .head .logical)
+      trim-inside = inside-words s h z l n (asked-inside s k (outside l n (deviceOf s)) v a g)
 
-      module _ (i : v ≡ Verdict.Accepted) where
-        last : trimRefusal k l n (deviceOf s) ≡ refuse (tooMany (trimmed k l n (deviceOf s))) Refusal.NoNodes 0
-        unfolding trimRefusal
-        last =
-            refuse-later (outside l n (deviceOf s)) Refusal.Range _ (outside-words s h z l n t e ∙ f)
-            ∙ number-passes s k v g (refuse (tooMany (trimmed k l n (deviceOf s))) Refusal.NoNodes 0) i
-
-        after : length (extents (trimmed k l n (deviceOf s))) ≡ startsBefore l (inUse s) + endsAfter (l + n) (inUse s)
-        after = let r = range-fits l n (s .head .logical) (sym e ∙ f) in trim-nodes (r .0) (r .1)
-
-        pub trim-many : s .head .slots < startsBefore l (inUse s) + endsAfter (l + n) (inUse s) → number Refusal.NoNodes ≡ trimRefusal k l n (deviceOf s)
-        unfolding tooMany
-        trim-many m =
-            sym (last ∙ refuse-here _ Refusal.NoNodes 0 (lt-ltb (trimmed k l n (deviceOf s) .slots) (length (extents (trimmed k l n (deviceOf s)))) (omega (arith, many, after))))
-
-        pub trim-passes : startsBefore l (inUse s) + endsAfter (l + n) (inUse s) ≤ s .head .slots → 0 ≡ trimRefusal k l n (deviceOf s)
-        unfolding tooMany
-        trim-passes m =
-            sym (last ∙ refuse-later _ Refusal.NoNodes 0 (le-ltb (trimmed k l n (deviceOf s) .slots) (length (extents (trimmed k l n (deviceOf s)))) (omega (arith, many, after))))
+      pub trim-last : (i j : ℕ) (w : Verdict) → i ≡ startsBefore l (inUse s) → j ≡ endsAfter (l + n) (inUse s)
+          → told w ≡ refuse (not (leb (i + j) (s .head .slots))) Refusal.NoNodes 0 → told w ≡ trimRefusal k l n (deviceOf s)
+      unfolding trimRefusal tooMany
+      trim-last i j w e f p =
+          let after : i + j ≡ length (extents (trimmed k l n (deviceOf s))) = ap₂ _+_ e f ∙ sym (trim-nodes (trim-inside .0) (trim-inside .1)) in
+          p
+          ∙ ap (λ (x : Bool). refuse x Refusal.NoNodes 0) (over-not (i + j) (s .head .slots) ∙ ap₂ ltb (sym many) after)
+          ∙ sym (asked-passes s k (outside l n (deviceOf s)) v a _ g)

@@ -8,9 +8,10 @@ ghost use Prim.Native.Nat.{_+_};
 ghost use lib.Dec.{eqb, ltb};
 ghost use Rattle.rules.specs.Lent.{lent};
 ghost use Rattle.rules.specs.Device.{deviceOf};
+ghost use Rattle.rules.specs.Answers.{refuse};
 ghost use Rattle.rules.specs.Calls.{readRefusal, trimRefusal};
 ghost use Rattle.laws.specs.Sane.{Shaped, Sane};
-ghost use Rattle.verdicts.specs.Refusals.{told, lentRefusal, roomed};
+ghost use Rattle.verdicts.specs.Refusals.{told, firstOf, lentRefusal, roomed};
 ghost use Rattle.verdicts.specs.Numbered.{numberRefusal};
 
 pub enum Verdict {
@@ -18,17 +19,35 @@ pub enum Verdict {
     Refused(Refusal),
 }
 
-// 1 and 2.
+// A test's verdict: refusal r unless it is passed.
+pub fn unless(passed: bool, r: Refusal) -> Verdict
+    ensures { λ v. ⌜ told v ≡ refuse (not passed) r 0 ⌝ }
+{
+    if passed {
+        return Verdict::Accepted;
+    }
+    Verdict::Refused(r)
+}
+
+// The first refusal of two.
+pub fn first_of(a: Verdict, b: Verdict) -> Verdict
+    ensures { λ v. ⌜ told v ≡ firstOf a (told b) ⌝ }
+{
+    if let Verdict::Refused(r) = a {
+        return Verdict::Refused(r);
+    }
+    b
+}
+
+// 1 and 2. Words of a wrong shape are not looked into.
 pub fn lent_verdict(h: Head, ext: &[u32], blk: &[u32], spare: &[u32]) -> Verdict
     ensures { λ v. ⌜ told v ≡ lentRefusal (lent h (now (ext .entry)) (now (blk .entry)) (now (spare .entry))) ⌝ }
 {
-    if !state::shape_ok(h, ext.len(), blk.len(), spare.len()) {
-        return Verdict::Refused(Refusal::Shape);
-    }
-    if !state::is_sound(h, ext, blk, spare) {
-        return Verdict::Refused(Refusal::Damaged);
-    }
-    Verdict::Accepted
+    let shaped = state::shape_ok(h, ext.len(), blk.len(), spare.len());
+    let sound = shaped && state::is_sound(h, ext, blk, spare);
+    let shape = unless(shaped, Refusal::Shape);
+    let damage = unless(sound, Refusal::Damaged);
+    first_of(shape, damage)
 }
 
 // Not outside: one page or more, ending at or below L.
@@ -41,7 +60,7 @@ pub fn in_range(top: u32, l: u32, n: u32) -> bool
     (l as u64) + (n as u64) <= (top as u64)
 }
 
-// 3 and 7, of a sound state.
+// 3 and 7, of a sound state. A range that is outside is not looked up.
 pub fn read_verdict(
     h: Head,
     ext: &[u32],
@@ -54,14 +73,11 @@ pub fn read_verdict(
     requires { ⌜ Shaped (lent h (now ext) (now blk) (now spare)) × Sane (lent h (now ext) (now blk) (now spare)) ⌝ }
     ensures { λ v. ⌜ told v ≡ readRefusal l n (roomed room) (deviceOf (lent h (now (ext .entry)) (now (blk .entry)) (now (spare .entry)))) ⌝ }
 {
-    if !in_range(h.logical, l, n) {
-        return Verdict::Refused(Refusal::Range);
-    }
-    let used = h.used as usize;
-    if room / 3 < reading::count_found(ext, used, l, l + n) {
-        return Verdict::Refused(Refusal::OutShort);
-    }
-    Verdict::Accepted
+    let inside = in_range(h.logical, l, n);
+    let fits = inside && reading::count_found(ext, h.used as usize, l, l + n) <= room / 3;
+    let range = unless(inside, Refusal::Range);
+    let short = unless(fits, Refusal::OutShort);
+    first_of(range, short)
 }
 
 // The test of a number.
@@ -87,16 +103,13 @@ pub fn trim_verdict(
     requires { ⌜ Shaped (lent h (now ext) (now blk) (now spare)) × Sane (lent h (now ext) (now blk) (now spare)) ⌝ }
     ensures { λ v. ⌜ told v ≡ trimRefusal number l n (deviceOf (lent h (now (ext .entry)) (now (blk .entry)) (now (spare .entry)))) ⌝ }
 {
-    if !in_range(h.logical, l, n) {
-        return Verdict::Refused(Refusal::Range);
-    }
-    let j = number_verdict(h, number);
-    if let Verdict::Refused(r) = j {
+    let range = unless(in_range(h.logical, l, n), Refusal::Range);
+    let judged = number_verdict(h, number);
+    let asked = first_of(range, judged);
+    if let Verdict::Refused(r) = asked {
         return Verdict::Refused(r);
     }
     let sides = map::around(ext, h.used as usize, l, l + n);
-    if (h.slots as usize) < sides.before + sides.after {
-        return Verdict::Refused(Refusal::NoNodes);
-    }
-    Verdict::Accepted
+    let fits = sides.before + sides.after <= h.slots as usize;
+    unless(fits, Refusal::NoNodes)
 }

@@ -60,25 +60,21 @@ pub fn write_verdict(
     requires { ⌜ Shaped (lent h (now ext) (now blk) (now spare)) × Sane (lent h (now ext) (now blk) (now spare)) ⌝ }
     ensures { λ v. ⌜ told v ≡ writeRefusal number l n (roomed room) (deviceOf (lent h (now (ext .entry)) (now (blk .entry)) (now (spare .entry)))) ⌝ }
 {
-    if !verdicts::in_range(h.logical, l, n) {
-        return Verdict::Refused(Refusal::Range);
-    }
-    if h.pages < n {
-        return Verdict::Refused(Refusal::Range);
-    }
-    let j = verdicts::number_verdict(h, number);
-    if let Verdict::Refused(r) = j {
+    let inside = verdicts::in_range(h.logical, l, n) && n <= h.pages;
+    let range = verdicts::unless(inside, Refusal::Range);
+    let judged = verdicts::number_verdict(h, number);
+    let asked = verdicts::first_of(range, judged);
+    if let Verdict::Refused(r) = asked {
         return Verdict::Refused(r);
     }
     if counts::totals_of(h, blk).free < n {
         return Verdict::Refused(Refusal::NoPages);
     }
     let k = targets::pieces_of(blk, h.blocks, h.pages, h.reserve, n);
-    if (h.slots as usize) < nodes_after(h, ext, blk, spare, l, n, k) {
-        return Verdict::Refused(Refusal::NoNodes);
-    }
-    if room / 3 < (k as usize) {
-        return Verdict::Refused(Refusal::OutShort);
-    }
-    Verdict::Accepted
+    let nodes = nodes_after(h, ext, blk, spare, l, n, k);
+    let fits = nodes <= h.slots as usize;
+    let listed = (k as usize) <= room / 3;
+    let many = verdicts::unless(fits, Refusal::NoNodes);
+    let short = verdicts::unless(listed, Refusal::OutShort);
+    verdicts::first_of(many, short)
 }

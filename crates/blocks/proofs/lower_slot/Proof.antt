@@ -34,8 +34,8 @@ cast-b c = search needs
 valid-of-requires : tie.Need-valid-of-requires
 valid-of-requires c κs = search needs
 
-sub-put-valid : tie.Need-sub-put-valid
-sub-put-valid c = search needs
+without-requires : tie.Need-without-requires
+without-requires c κs = search needs
 
 put-valid-requires : tie.Need-put-valid-requires
 put-valid-requires c κs = search needs
@@ -45,9 +45,12 @@ same-length c = search needs
 
 returns-2 : tie.Need-returns-2
 returns-2 c =
-    let a = c .before .before .before .before .before .before .before .before .before .before .before .args in
-    lowered-set (a .pages) (a .l) (a .e) _ _ _ (slot (a .ext .now) (a .i)) (a .blk .now) _ refl (c .before .before .before .before .before .before .before .before .overlap-of .ensures) (c .before .before .before .before .valid-of .ensures)
-    (omega arith) (omega (arith, c .before .before .before .before .before .before .before .before .overlap-of .ensures, c .before .before .before .before .valid-of .ensures)) (c .before .before .put-valid .ensures)
+    let w = c .before .before .before in
+    let v = w .before .before in
+    let gone = v .before .before .before .before in
+    let a = gone .before .before .before .args in
+    lowered-set (a .pages) (a .l) (a .e) _ _ _ _ (slot (a .ext .now) (a .i)) (a .blk .now) _ refl (gone .overlap-of .ensures) (v .valid-of .ensures)
+    (omega arith) (omega (arith, gone .overlap-of .ensures, v .valid-of .ensures)) (w .without .ensures) (c .before .before .put-valid .ensures)
 
 pub lower-slot-spec : {M : Type 1} → statement M
 lower-slot-spec =
@@ -62,7 +65,7 @@ lower-slot-spec =
     div-b
     cast-b
     valid-of-requires
-    sub-put-valid
+    without-requires
     put-valid-requires
     same-length
     returns-2)

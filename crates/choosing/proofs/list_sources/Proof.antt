@@ -54,10 +54,10 @@ add-out : tie.Need-add-out Inv-loop μ-loop
 add-out c = search needs
 
 cast-out : tie.Need-cast-out Inv-loop μ-loop
-cast-out c = omega (arith, room (c .before) (omega arith))
+cast-out c = omega (arith, c .before .before .shared-slice-known .given (c .before .before .before .before .loop .o))
 
 mul-out-2 : tie.Need-mul-out-2 Inv-loop μ-loop
-mul-out-2 c = omega (arith, room (c .before) (omega arith))
+mul-out-2 c = omega (arith, c .before .before .shared-slice-known .given (c .before .before .before .before .loop .o))
 
 slice-write-out : tie.Need-slice-write-out Inv-loop μ-loop
 slice-write-out c = omega (arith, room (c .before) (omega arith))

@@ -1,56 +1,108 @@
 use borrow.Author.Needs.{needs}
-use native.Mathlib.Omega.{arith}
-use Rattle.rules.specs.Lent.{lent}
-use Rattle.counts.specs.Totals.{sane-filled}
-use Rattle.reclaimable.specs.Reclaiming.{sane-walkable, sane-records, victim-record, reclaim-nothing, reclaim-many, reclaim-short, reclaim-passes}
+use mathlib.Core.Bool.{true, true≢false}
+use mathlib.Core.Logic.{⊎-elim}
+use mathlib.Core.Path.{_≡_, sym, ap, _∙_}
+use Prim.Native.Nat.{ℕ}
+use lib.Dec.{ltb, leb}
+use lib.ListN.{length}
+use Rattle.rules.specs.Lent.{Lent, lent, inUse}
+use Rattle.reclaiming.specs.Remapped.{remapped}
+use Rattle.verdicts.specs.Refusals.{firstOf}
+use Rattle.reclaimable.specs.Reclaiming.{sane-walkable, sane-records, victim-record, reclaim-first}
 use Rattle.reclaimable.proofs.reclaim_verdict.Statement.{statement}
 use Rattle.reclaimable.proofs.reclaim_verdict.Tie as tie
 
-totals-of-requires : tie.Need-totals-of-requires
-totals-of-requires c κs = sane-filled (lent (c .before .before .before .args .h) (c .before .before .before .args .ext .now) (c .before .before .before .args .blk .now) (c .before .before .before .args .spare .now)) (c .before .before .before .pre .0) (c .before .before .before .pre .1)
+abbrev state : tie.Start → Lent
+state s = lent (s .args .h) (s .args .ext .now) (s .args .blk .now) (s .args .spare .now)
 
-returns : tie.Need-returns
-returns c = reclaim-nothing (lent (c .before .before .before .before .before .before .args .h) (c .before .before .before .before .before .before .args .ext .now) (c .before .before .before .before .before .before .args .blk .now) (c .before .before .before .before .before .before .args .spare .now)) (c .before .before .before .before .before .before .pre .0) (c .before .before .before .before .before .before .pre .1) (c .before .before .before .before .before .before .args .room) _ (c .before .before .totals-of .ensures) (omega arith)
+abbrev victim : tie.Joined1 → tie.After-victim-of
+victim c = c .before .before .before
+
+abbrev start : tie.Joined1 → tie.Start
+start c = victim c .before .before .before .before
+
+-- the second test, where it is made
+looked : (c : tie.Joined1) → ltb 0 (c .before .before .stale-of .result) ≡ true
+    → c .if1 .fits ≡ leb (length (remapped (start c .args .h .pages) (victim c .victim-of .result) (start c .args .h .reserve) (inUse (state (start c))))) (start c .args .h .slots)
+looked c e =
+    ⊎-elim (λ w. w .3 ∙ ap (λ (x : ℕ). leb x (start c .args .h .slots)) (w .1 .ensures)) (λ w. absurd (true≢false (sym e ∙ w .0 .left))) (c .if1 .came)
 
 victim-of-requires : tie.Need-victim-of-requires
-victim-of-requires c κs = sane-records (lent (c .before .before .before .before .before .before .args .h) (c .before .before .before .before .before .before .args .ext .now) (c .before .before .before .before .before .before .args .blk .now) (c .before .before .before .before .before .before .args .spare .now)) (c .before .before .before .before .before .before .pre .0) (c .before .before .before .before .before .before .pre .1)
+victim-of-requires c κs = let s = c .before .before .before in sane-records (state s) (s .pre .0) (s .pre .1)
 
-cast-if2 : tie.Need-cast-if2
-cast-if2 c = search needs
+cast-stale-of : tie.Need-cast-stale-of
+cast-stale-of c = search needs
 
-nodes-after-reclaim-requires : tie.Need-nodes-after-reclaim-requires
-nodes-after-reclaim-requires c κs = sane-walkable (lent (c .before .before .before .before .before .before .before .before .args .h) (c .before .before .before .before .before .before .before .before .args .ext .now) (c .before .before .before .before .before .before .before .before .args .blk .now) (c .before .before .before .before .before .before .before .before .args .spare .now)) (c .before .before .before .before .before .before .before .before .pre .0) (c .before .before .before .before .before .before .before .before .pre .1)
-
-returns-2 : tie.Need-returns-2
-returns-2 c = reclaim-many (lent (c .before .before .before .before .before .before .before .before .before .before .args .h) (c .before .before .before .before .before .before .before .before .before .before .args .ext .now) (c .before .before .before .before .before .before .before .before .before .before .args .blk .now) (c .before .before .before .before .before .before .before .before .before .before .args .spare .now)) (c .before .before .before .before .before .before .before .before .before .before .pre .0) (c .before .before .before .before .before .before .before .before .before .before .pre .1) (c .before .before .before .before .before .before .before .before .before .before .args .room) _ (c .before .before .before .before .before .before .totals-of .ensures) (λ q. omega arith) (c .before .before .before .victim-of .result) (c .before .before .before .victim-of .ensures) _ (c .before .nodes-after-reclaim .ensures) (omega arith)
+stale-of-requires : tie.Need-stale-of-requires
+stale-of-requires c κs =
+    let s = c .before .before .before .before in
+    victim-record (state s) (s .pre .0) (s .pre .1) _ (c .victim-of .ensures)
 
 cast-valid-of : tie.Need-cast-valid-of
 cast-valid-of c = search needs
 
 valid-of-requires : tie.Need-valid-of-requires
-valid-of-requires c κs = victim-record (lent (c .before .before .before .before .before .before .before .before .before .before .args .h) (c .before .before .before .before .before .before .before .before .before .before .args .ext .now) (c .before .before .before .before .before .before .before .before .before .before .args .blk .now) (c .before .before .before .before .before .before .before .before .before .before .args .spare .now)) (c .before .before .before .before .before .before .before .before .before .before .pre .0) (c .before .before .before .before .before .before .before .before .before .before .pre .1) (c .before .before .before .before .before .before .before .before .before .before .args .room) _ (c .before .before .before .before .before .before .totals-of .ensures) (λ q. omega arith) (c .before .before .before .victim-of .result) (c .before .before .before .victim-of .ensures)
+valid-of-requires c κs =
+    let v = c .before in
+    let s = v .before .before .before .before in
+    victim-record (state s) (s .pre .0) (s .pre .1) _ (v .victim-of .ensures) .0
 
-cast-if3 : tie.Need-cast-if3
-cast-if3 c = search needs
+nodes-after-reclaim-requires : tie.Need-nodes-after-reclaim-requires
+nodes-after-reclaim-requires c κs =
+    let s = c .before .before .before .before .before .before .before in
+    sane-walkable (state s) (s .pre .0) (s .pre .1)
 
-returns-3 : tie.Need-returns-3
-returns-3 c = reclaim-short (lent (c .before .before .before .before .before .before .before .before .before .before .before .before .args .h) (c .before .before .before .before .before .before .before .before .before .before .before .before .args .ext .now) (c .before .before .before .before .before .before .before .before .before .before .before .before .args .blk .now) (c .before .before .before .before .before .before .before .before .before .before .before .before .args .spare .now)) (c .before .before .before .before .before .before .before .before .before .before .before .before .pre .0) (c .before .before .before .before .before .before .before .before .before .before .before .before .pre .1) (c .before .before .before .before .before .before .before .before .before .before .before .before .args .room) _ (c .before .before .before .before .before .before .before .before .totals-of .ensures) (λ q. omega arith) (c .before .before .before .before .before .victim-of .result) (c .before .before .before .before .before .victim-of .ensures) _ (c .before .before .before .nodes-after-reclaim .ensures) (omega arith) _ (c .before .valid-of .ensures) (omega arith)
+cast-fits : tie.Need-cast-fits
+cast-fits c = search needs
 
-returns-4 : tie.Need-returns-4
-returns-4 c = reclaim-passes (lent (c .before .before .before .before .before .before .before .before .before .before .before .before .args .h) (c .before .before .before .before .before .before .before .before .before .before .before .before .args .ext .now) (c .before .before .before .before .before .before .before .before .before .before .before .before .args .blk .now) (c .before .before .before .before .before .before .before .before .before .before .before .before .args .spare .now)) (c .before .before .before .before .before .before .before .before .before .before .before .before .pre .0) (c .before .before .before .before .before .before .before .before .before .before .before .before .pre .1) (c .before .before .before .before .before .before .before .before .before .before .before .before .args .room) _ (c .before .before .before .before .before .before .before .before .totals-of .ensures) (λ q. omega arith) (c .before .before .before .before .before .victim-of .result) (c .before .before .before .before .before .victim-of .ensures) _ (c .before .before .before .nodes-after-reclaim .ensures) (omega arith) _ (c .before .valid-of .ensures) (omega arith)
+cast-listed : tie.Need-cast-listed
+cast-listed c = search needs
+
+unless-requires : tie.Need-unless-requires
+unless-requires c κs = search needs
+
+unless-requires-2 : tie.Need-unless-requires-2
+unless-requires-2 c κs = search needs
+
+unless-requires-3 : tie.Need-unless-requires-3
+unless-requires-3 c κs = search needs
+
+first-of-requires : tie.Need-first-of-requires
+first-of-requires c κs = search needs
+
+first-of-requires-2 : tie.Need-first-of-requires-2
+first-of-requires-2 c κs = search needs
+
+returns : tie.Need-returns
+returns c =
+    let later = c .before in
+    let short = later .before in
+    let many = short .before in
+    let nothing = many .before in
+    let join = nothing .before in
+    let copies = join .before in
+    let stale = copies .before in
+    let s = start join in
+    c .first-of2 .ensures ∙ ap (firstOf (nothing .unless .result)) (later .first-of .ensures)
+    ∙ reclaim-first (state s) (s .pre .0) (s .pre .1) (victim join .victim-of .result) (victim join .victim-of .ensures) (s .args .room)
+    (stale .stale-of .result) (copies .valid-of .result) (join .if1 .fits) (nothing .unless .result) (many .unless2 .result) (short .unless3 .result)
+    (stale .stale-of .ensures) (copies .valid-of .ensures) (looked join) (nothing .unless .ensures) (many .unless2 .ensures) (short .unless3 .ensures)
 
 pub reclaim-verdict-spec : {M : Type 1} → statement M
 reclaim-verdict-spec =
     tie.close
     (tie.spec
-    totals-of-requires
-    returns
     victim-of-requires
-    cast-if2
-    nodes-after-reclaim-requires
-    returns-2
+    cast-stale-of
+    stale-of-requires
     cast-valid-of
     valid-of-requires
-    cast-if3
-    returns-3
-    returns-4)
+    nodes-after-reclaim-requires
+    cast-fits
+    cast-listed
+    unless-requires
+    unless-requires-2
+    unless-requires-3
+    first-of-requires
+    first-of-requires-2
+    returns)

@@ -1,43 +1,76 @@
 use borrow.Author.Needs.{needs}
 use native.Mathlib.Omega.{arith}
-use mathlib.Core.Path.{sym, _∙_}
-use Rattle.rules.specs.Lent.{lent}
+use mathlib.Core.Path.{_≡_, sym, ap, _∙_}
+use mathlib.Core.Bool.{true, not, true≢false}
+use mathlib.Core.Logic.{⊎-elim}
+use lib.Dec.{leb}
+use lib.ListN.{length}
+use Prim.Native.Nat.{ℕ, _+_, _/_}
+use Rattle.rules.specs.Lent.{Lent, lent, inUse}
 use Rattle.laws.specs.Shapes.{lines-pages, pages-high}
-use Rattle.verdicts.specs.Reading.{range-fits, rows-sound, read-range, read-short, read-passes}
+use Rattle.reading.specs.Walk.{between}
+use Rattle.verdicts.specs.Reading.{range-fits, rows-sound, read-first}
 use Rattle.verdicts.proofs.read_verdict.Statement.{statement}
 use Rattle.verdicts.proofs.read_verdict.Tie as tie
+
+abbrev state : tie.Start → Lent
+state s = lent (s .args .h) (s .args .ext .now) (s .args .blk .now) (s .args .spare .now)
+
+abbrev start : tie.Joined1 → tie.Start
+start c = c .before .before .before .before .before
+
+-- the second test, where it is made
+looked : (c : tie.Joined1) → c .before .in-range .result ≡ true
+    → c .if1 .fits ≡ leb (length (between (start c .args .l) (start c .args .l + start c .args .n) (inUse (state (start c))))) (start c .args .room / 3)
+looked c e =
+    ⊎-elim (λ w. w .3 ∙ ap (λ (k : ℕ). leb k (start c .args .room / 3)) (w .2 .ensures)) (λ w. absurd (true≢false (sym e ∙ w .0 .left))) (c .if1 .came)
 
 in-range-requires : tie.Need-in-range-requires
 in-range-requires c κs = search needs
 
-returns : tie.Need-returns
-returns c = read-range (lent (c .before .before .before .before .before .args .h) (c .before .before .before .before .before .args .ext .now) (c .before .before .before .before .before .args .blk .now) (c .before .before .before .before .before .args .spare .now)) (c .before .before .before .before .before .pre .0) (c .before .before .before .before .before .pre .1) (c .before .before .before .before .before .args .l) (c .before .before .before .before .before .args .n) (c .before .before .before .before .before .args .room) _ (c .before .in-range .ensures) (c .if1 .taken)
-
-cast-used : tie.Need-cast-used
-cast-used c = search needs
+cast-count-found : tie.Need-cast-count-found
+cast-count-found c = search needs
 
 add-count-found : tie.Need-add-count-found
 add-count-found c =
-    let r = range-fits (c .before .before .before .before .before .before .args .l) (c .before .before .before .before .before .before .args .n) (c .before .before .before .before .before .before .args .h .logical) (sym (c .before .before .in-range .ensures) ∙ c .before .if1 .left) in
-    let z = c .before .before .before .before .before .before .pre .0 .sizes in
-    omega (arith, lines-pages z, pages-high z)
+    let i = c .before .before in
+    let s = i .before .before .before .before in
+    let r = range-fits (s .args .l) (s .args .n) (s .args .h .logical) (sym (i .in-range .ensures) ∙ ap not (c .before .if1 .taken)) in
+    omega (arith, r .1, lines-pages (s .pre .0 .sizes), pages-high (s .pre .0 .sizes))
 
 count-found-requires : tie.Need-count-found-requires
-count-found-requires c κs = (
-  omega (arith, c .before .before .before .before .before .before .pre .0 .extents, c .before .before .before .before .before .before .pre .1 .few),
-  omega arith,
-  rows-sound (lent (c .before .before .before .before .before .before .args .h) (c .before .before .before .before .before .before .args .ext .now) (c .before .before .before .before .before .before .args .blk .now) (c .before .before .before .before .before .before .args .spare .now)) (c .before .before .before .before .before .before .pre .0) (c .before .before .before .before .before .before .pre .1),
-)
+count-found-requires c κs =
+    let s = c .before .before .before .before .before .before in
+    (omega (arith, s .pre .0 .extents, s .pre .1 .few), omega arith, rows-sound (state s) (s .pre .0) (s .pre .1))
 
-returns-2 : tie.Need-returns-2
-returns-2 c =
-    let r = range-fits _ _ _ (sym (c .before .before .before .before .in-range .ensures) ∙ c .before .before .before .if1 .left) in
-    read-short (lent (c .before .before .before .before .before .before .before .before .args .h) (c .before .before .before .before .before .before .before .before .args .ext .now) (c .before .before .before .before .before .before .before .before .args .blk .now) (c .before .before .before .before .before .before .before .before .args .spare .now)) (c .before .before .before .before .before .before .before .before .pre .0) (c .before .before .before .before .before .before .before .before .pre .1) (c .before .before .before .before .before .before .before .before .args .l) (c .before .before .before .before .before .before .before .before .args .n) (c .before .before .before .before .before .before .before .before .args .room) _ (c .before .before .before .before .in-range .ensures) (c .before .before .before .if1 .left) (r .1) (omega (arith, c .before .count-found .ensures))
+unless-requires : tie.Need-unless-requires
+unless-requires c κs = search needs
 
-returns-3 : tie.Need-returns-3
-returns-3 c =
-    let r = range-fits _ _ _ (sym (c .before .before .before .before .in-range .ensures) ∙ c .before .before .before .if1 .left) in
-    read-passes (lent (c .before .before .before .before .before .before .before .before .args .h) (c .before .before .before .before .before .before .before .before .args .ext .now) (c .before .before .before .before .before .before .before .before .args .blk .now) (c .before .before .before .before .before .before .before .before .args .spare .now)) (c .before .before .before .before .before .before .before .before .pre .0) (c .before .before .before .before .before .before .before .before .pre .1) (c .before .before .before .before .before .before .before .before .args .l) (c .before .before .before .before .before .before .before .before .args .n) (c .before .before .before .before .before .before .before .before .args .room) _ (c .before .before .before .before .in-range .ensures) (c .before .before .before .if1 .left) (r .1) (omega (arith, c .before .count-found .ensures))
+unless-requires-2 : tie.Need-unless-requires-2
+unless-requires-2 c κs = search needs
+
+first-of-requires : tie.Need-first-of-requires
+first-of-requires c κs = search needs
+
+returns : tie.Need-returns
+returns c =
+    let range = c .before .before in
+    let join = range .before in
+    let s = start join in
+    c .first-of .ensures
+    ∙ read-first (state s) (s .pre .0) (s .pre .1) (s .args .l) (s .args .n) (s .args .room)
+    (join .before .in-range .result) (join .if1 .fits) (range .unless .result) (c .before .unless2 .result)
+    (join .before .in-range .ensures) (looked join) (range .unless .ensures) (c .before .unless2 .ensures)
 
 pub read-verdict-spec : {M : Type 1} → statement M
-read-verdict-spec = tie.close (tie.spec in-range-requires returns cast-used add-count-found count-found-requires returns-2 returns-3)
+read-verdict-spec =
+    tie.close
+    (tie.spec
+    in-range-requires
+    cast-count-found
+    add-count-found
+    count-found-requires
+    unless-requires
+    unless-requires-2
+    first-of-requires
+    returns)

@@ -1,33 +1,62 @@
 use borrow.Author.Needs.{needs}
 use native.Mathlib.Omega.{arith}
-use mathlib.Core.Path.{sym, _∙_}
+use mathlib.Core.Bool.{Bool}
+use mathlib.Core.Path.{ap, _∙_}
 use Prim.Native.Nat.{_+_}
-use lib.ListN.{length}
-use Rattle.rules.specs.Extents.{slots}
-use Rattle.rules.specs.Lent.{lent}
-use Rattle.laws.specs.Counts.{tally-le}
-use Rattle.laws.specs.Slots.{slots-length}
+use Rattle.rules.specs.Lent.{Lent, lent}
+use Rattle.rules.specs.Device.{deviceOf}
+use Rattle.rules.specs.Answers.{refuse}
+use Rattle.rules.specs.Calls.{outside}
+use Rattle.rules.specs.declared.Refusal.{Refusal}
 use Rattle.laws.specs.Shapes.{lines-pages, pages-high}
-use Rattle.verdicts.specs.Reading.{range-fits}
-use Rattle.verdicts.specs.Trimming.{trim-range, trim-number, trim-many, trim-passes, few-around}
+use Rattle.verdicts.specs.Numbered.{Asked}
+use Rattle.verdicts.specs.Reading.{is-outside}
+use Rattle.verdicts.specs.Trimming.{trim-asked, trim-inside, trim-last, few-around}
 use Rattle.verdicts.proofs.trim_verdict.Statement.{statement}
 use Rattle.verdicts.proofs.trim_verdict.Tie as tie
+
+abbrev state : tie.Start → Lent
+state s = lent (s .args .h) (s .args .ext .now) (s .args .blk .now) (s .args .spare .now)
+
+abbrev start : tie.After-first-of → tie.Start
+start c = c .before .before .before .before .before .before .before
+
+-- Range, then the number
+asked : (c : tie.After-first-of) → let s = start c in
+    Asked (state s) (s .args .number) (outside (s .args .l) (s .args .n) (deviceOf (state s))) (c .first-of .result)
+asked c =
+    let s = start c in
+    let range = c .before .before in
+    let inside = range .before in
+    let out = is-outside (state s) (s .pre .0) (s .pre .1) (s .args .l) (s .args .n) (inside .in-range .result) (inside .in-range .ensures) in
+    record {
+      range = range .unless .result;
+      number = c .before .number-verdict .result;
+      range-is = range .unless .ensures ∙ ap (λ (x : Bool). refuse x Refusal.Range 0) out;
+      number-is = c .before .number-verdict .ensures;
+      first = c .first-of .ensures;
+    }
 
 in-range-requires : tie.Need-in-range-requires
 in-range-requires c κs = search needs
 
-returns : tie.Need-returns
-returns c = trim-range (lent (c .before .before .before .before .before .args .h) (c .before .before .before .before .before .args .ext .now) (c .before .before .before .before .before .args .blk .now) (c .before .before .before .before .before .args .spare .now)) (c .before .before .before .before .before .pre .0) (c .before .before .before .before .before .pre .1) (c .before .before .before .before .before .args .number) (c .before .before .before .before .before .args .l) (c .before .before .before .before .before .args .n) _ (c .before .in-range .ensures) (c .if1 .taken)
+unless-requires : tie.Need-unless-requires
+unless-requires c κs = search needs
 
 number-verdict-requires : tie.Need-number-verdict-requires
 number-verdict-requires c κs = search needs
 
-enum-known-j : tie.Need-enum-known-j
-enum-known-j c = search needs
+first-of-requires : tie.Need-first-of-requires
+first-of-requires c κs = search needs
 
-returns-2 : tie.Need-returns-2
-returns-2 c =
-    trim-number (lent (c .before .before .before .before .before .before .before .before .before .args .h) (c .before .before .before .before .before .before .before .before .before .args .ext .now) (c .before .before .before .before .before .before .before .before .before .args .blk .now) (c .before .before .before .before .before .before .before .before .before .args .spare .now)) (c .before .before .before .before .before .before .before .before .before .pre .0) (c .before .before .before .before .before .before .before .before .before .pre .1) (c .before .before .before .before .before .before .before .before .before .args .number) (c .before .before .before .before .before .before .before .before .before .args .l) (c .before .before .before .before .before .before .before .before .before .args .n) _ (c .before .before .before .before .before .in-range .ensures) (c .before .before .before .before .if1 .left) _ (c .before .before .before .number-verdict .ensures) (c .before .j .given .0 .0) (c .before .j .given .1)
+enum-known-asked : tie.Need-enum-known-asked
+enum-known-asked c = search needs
+
+returns : tie.Need-returns
+returns c =
+    let f = c .before .before .before in
+    let s = start f in
+    trim-asked (state s) (s .pre .0) (s .pre .1) (s .args .number) (s .args .l) (s .args .n) _ (asked f) (c .before .asked .given .0 .0) (c .before .asked .given .1)
 
 enum-told : tie.Need-enum-told
 enum-told c = search needs
@@ -37,28 +66,49 @@ cast-around c = search needs
 
 add-around : tie.Need-add-around
 add-around c =
-    let r = range-fits (c .before .before .before .before .before .before .before .before .before .args .l) (c .before .before .before .before .before .before .before .before .before .args .n) (c .before .before .before .before .before .before .before .before .before .args .h .logical) (sym (c .before .before .before .before .before .in-range .ensures) ∙ c .before .before .before .before .if1 .left) in
-    let z = c .before .before .before .before .before .before .before .before .before .pre .0 .sizes in
-    omega (arith, lines-pages z, pages-high z)
+    let f = c .before .before .before in
+    let s = start f in
+    let r = trim-inside (state s) (s .pre .0) (s .pre .1) (s .args .number) (s .args .l) (s .args .n) _ (asked f) (c .before .enum-told .given .1) in
+    omega (arith, r .1, lines-pages (s .pre .0 .sizes), pages-high (s .pre .0 .sizes))
 
 around-requires : tie.Need-around-requires
-around-requires c κs = omega (arith, c .before .before .before .before .before .before .before .before .before .pre .0 .extents, c .before .before .before .before .before .before .before .before .before .pre .1 .few)
+around-requires c κs = let s = start (c .before .before .before) in omega (arith, s .pre .0 .extents, s .pre .1 .few)
 
-cast-if2 : tie.Need-cast-if2
-cast-if2 c = search needs
+add-fits : tie.Need-add-fits
+add-fits c =
+    let s = start (c .before .before .before .before .before) in
+    omega (arith, few-around (state s) (s .pre .0) (s .pre .1) (s .args .l) (s .args .l + s .args .n), c .before .around .ensures)
 
-add-if2 : tie.Need-add-if2
-add-if2 c = omega (arith, few-around (lent (c .before .before .before .before .before .before .before .before .before .before .before .before .args .h) (c .before .before .before .before .before .before .before .before .before .before .before .before .args .ext .now) (c .before .before .before .before .before .before .before .before .before .before .before .before .args .blk .now) (c .before .before .before .before .before .before .before .before .before .before .before .before .args .spare .now)) (c .before .before .before .before .before .before .before .before .before .before .before .before .pre .0) (c .before .before .before .before .before .before .before .before .before .before .before .before .pre .1) (c .before .before .before .before .before .before .before .before .before .before .before .before .args .l) (c .before .before .before .before .before .before .before .before .before .before .before .before .args .l + c .before .before .before .before .before .before .before .before .before .before .before .before .args .n), c .before .before .around .ensures)
+cast-fits : tie.Need-cast-fits
+cast-fits c = search needs
 
-returns-3 : tie.Need-returns-3
-returns-3 c =
-    trim-many (lent (c .before .before .before .before .before .before .before .before .before .before .before .before .before .args .h) (c .before .before .before .before .before .before .before .before .before .before .before .before .before .args .ext .now) (c .before .before .before .before .before .before .before .before .before .before .before .before .before .args .blk .now) (c .before .before .before .before .before .before .before .before .before .before .before .before .before .args .spare .now)) (c .before .before .before .before .before .before .before .before .before .before .before .before .before .pre .0) (c .before .before .before .before .before .before .before .before .before .before .before .before .before .pre .1) (c .before .before .before .before .before .before .before .before .before .before .before .before .before .args .number) (c .before .before .before .before .before .before .before .before .before .before .before .before .before .args .l) (c .before .before .before .before .before .before .before .before .before .before .before .before .before .args .n) _ (c .before .before .before .before .before .before .before .before .before .in-range .ensures) (c .before .before .before .before .before .before .before .before .if1 .left) _ (c .before .before .before .before .before .before .before .number-verdict .ensures) (c .before .before .before .before .before .enum-told .given .1) (omega (arith, c .before .before .before .around .ensures))
+unless-requires-2 : tie.Need-unless-requires-2
+unless-requires-2 c κs = search needs
 
-returns-4 : tie.Need-returns-4
-returns-4 c =
-    trim-passes (lent (c .before .before .before .before .before .before .before .before .before .before .before .before .before .args .h) (c .before .before .before .before .before .before .before .before .before .before .before .before .before .args .ext .now) (c .before .before .before .before .before .before .before .before .before .before .before .before .before .args .blk .now) (c .before .before .before .before .before .before .before .before .before .before .before .before .before .args .spare .now)) (c .before .before .before .before .before .before .before .before .before .before .before .before .before .pre .0) (c .before .before .before .before .before .before .before .before .before .before .before .before .before .pre .1) (c .before .before .before .before .before .before .before .before .before .before .before .before .before .args .number) (c .before .before .before .before .before .before .before .before .before .before .before .before .before .args .l) (c .before .before .before .before .before .before .before .before .before .before .before .before .before .args .n) _ (c .before .before .before .before .before .before .before .before .before .in-range .ensures) (c .before .before .before .before .before .before .before .before .if1 .left) _ (c .before .before .before .before .before .before .before .number-verdict .ensures) (c .before .before .before .before .before .enum-told .given .1) (omega (arith, c .before .before .before .around .ensures))
+returns-2 : tie.Need-returns-2
+returns-2 c =
+    let around = c .before .before .before in
+    let told = around .before .before in
+    let f = told .before .before in
+    let s = start f in
+    trim-last (state s) (s .pre .0) (s .pre .1) (s .args .number) (s .args .l) (s .args .n) _ (asked f) (told .enum-told .given .1)
+    (around .around .result .before) (around .around .result .after) (c .unless2 .result) (around .around .ensures .0) (around .around .ensures .1) (c .unless2 .ensures)
 
 pub trim-verdict-spec : {M : Type 1} → statement M
 trim-verdict-spec =
     tie.close
-    (tie.spec in-range-requires returns number-verdict-requires enum-known-j returns-2 enum-told cast-around add-around around-requires cast-if2 add-if2 returns-3 returns-4)
+    (tie.spec
+    in-range-requires
+    unless-requires
+    number-verdict-requires
+    first-of-requires
+    enum-known-asked
+    returns
+    enum-told
+    cast-around
+    add-around
+    around-requires
+    add-fits
+    cast-fits
+    unless-requires-2
+    returns-2)

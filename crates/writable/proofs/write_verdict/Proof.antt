@@ -1,86 +1,151 @@
 use borrow.Author.Needs.{needs}
-use mathlib.Core.Path.{sym, _∙_}
+use mathlib.Core.Path.{_≡_, sym, ap, _∙_}
+use mathlib.Core.Bool.{Bool, _&&_}
+use mathlib.Core.Logic.{⊎-elim}
 use native.Mathlib.Omega.{arith}
-use Rattle.rules.specs.Lent.{lent}
+use Prim.Native.Nat.{_≤_}
+use lib.Dec.{leb}
+use Rattle.rules.specs.Lent.{Lent, lent}
+use Rattle.rules.specs.Device.{free, deviceOf}
+use Rattle.rules.specs.Answers.{refuse}
+use Rattle.rules.specs.declared.Refusal.{Refusal}
 use Rattle.counts.specs.Totals.{sane-filled, device-free}
+use Rattle.verdicts.specs.Numbered.{Asked}
 use Rattle.writable.specs.Meeting.{pieces-are}
-use Rattle.writable.specs.Writing.{write-outside, write-long, write-number, write-pages, writable, write-many, write-short, write-passes}
+use Rattle.writable.specs.Writing.{outOrLong, is-out-or-long, write-asked, write-pages, writable, write-last}
 use Rattle.writable.proofs.write_verdict.Statement.{statement}
 use Rattle.writable.proofs.write_verdict.Tie as tie
+
+abbrev state : tie.Start → Lent
+state s = lent (s .args .h) (s .args .ext .now) (s .args .blk .now) (s .args .spare .now)
+
+abbrev start : tie.After-first-of → tie.Start
+start c = c .before .before .before .before .before .before .before .before
+
+-- what two tests of the range come to
+both : (c : tie.Joined1) → let a = c .before .before .before .before .before .args in c .if1 .inside ≡ (c .before .in-range .result && leb (a .n) (a .h .pages))
+both c =
+    let a = c .before .before .before .before .before .args in
+    let also : Bool → Bool = λ t. t && leb (a .n) (a .h .pages) in
+    ⊎-elim (λ w. w .2 ∙ sym (ap also (w .0 .taken))) (λ w. w .1 ∙ w .0 .left ∙ sym (ap also (w .0 .left))) (c .if1 .came)
+
+-- Range, then the number
+asked : (c : tie.After-first-of) → let s = start c in
+    Asked (state s) (s .args .number) (outOrLong (state s) (s .pre .0) (s .pre .1) (s .args .l) (s .args .n)) (c .first-of .result)
+asked c =
+    let s = start c in
+    let range = c .before .before in
+    let join = range .before in
+    let i = join .before in
+    let out = is-out-or-long (state s) (s .pre .0) (s .pre .1) (s .args .l) (s .args .n) (i .in-range .result) (join .if1 .inside) (i .in-range .ensures) (both join) in
+    record {
+      range = range .unless .result;
+      number = c .before .number-verdict .result;
+      range-is = range .unless .ensures ∙ ap (λ (x : Bool). refuse x Refusal.Range 0) out;
+      number-is = c .before .number-verdict .ensures;
+      first = c .first-of .ensures;
+    }
 
 in-range-requires : tie.Need-in-range-requires
 in-range-requires c κs = search needs
 
-returns : tie.Need-returns
-returns c = write-outside (lent (c .before .before .before .before .before .args .h) (c .before .before .before .before .before .args .ext .now) (c .before .before .before .before .before .args .blk .now) (c .before .before .before .before .before .args .spare .now)) (c .before .before .before .before .before .pre .0) (c .before .before .before .before .before .pre .1) (c .before .before .before .before .before .args .number) (c .before .before .before .before .before .args .l) (c .before .before .before .before .before .args .n) (c .before .before .before .before .before .args .room) _ (c .before .in-range .ensures) (c .if1 .taken)
-
-returns-2 : tie.Need-returns-2
-returns-2 c = write-long (lent (c .before .before .before .before .before .before .before .args .h) (c .before .before .before .before .before .before .before .args .ext .now) (c .before .before .before .before .before .before .before .args .blk .now) (c .before .before .before .before .before .before .before .args .spare .now)) (c .before .before .before .before .before .before .before .pre .0) (c .before .before .before .before .before .before .before .pre .1) (c .before .before .before .before .before .before .before .args .number) (c .before .before .before .before .before .before .before .args .l) (c .before .before .before .before .before .before .before .args .n) (c .before .before .before .before .before .before .before .args .room) _ (c .before .before .before .in-range .ensures) (c .before .before .if1 .left) (omega arith)
+unless-requires : tie.Need-unless-requires
+unless-requires c κs = search needs
 
 number-verdict-requires : tie.Need-number-verdict-requires
 number-verdict-requires c κs = search needs
 
-enum-known-j : tie.Need-enum-known-j
-enum-known-j c = search needs
+first-of-requires : tie.Need-first-of-requires
+first-of-requires c κs = search needs
 
-returns-3 : tie.Need-returns-3
-returns-3 c = write-number (lent (c .before .before .before .before .before .before .before .before .before .before .before .args .h) (c .before .before .before .before .before .before .before .before .before .before .before .args .ext .now) (c .before .before .before .before .before .before .before .before .before .before .before .args .blk .now) (c .before .before .before .before .before .before .before .before .before .before .before .args .spare .now)) (c .before .before .before .before .before .before .before .before .before .before .before .pre .0) (c .before .before .before .before .before .before .before .before .before .before .before .pre .1) (c .before .before .before .before .before .before .before .before .before .before .before .args .number) (c .before .before .before .before .before .before .before .before .before .before .before .args .l) (c .before .before .before .before .before .before .before .before .before .before .before .args .n) (c .before .before .before .before .before .before .before .before .before .before .before .args .room) _ (c .before .before .before .before .before .before .before .in-range .ensures) (c .before .before .before .before .before .before .if1 .left) (omega arith) _ (c .before .before .before .number-verdict .ensures) (c .before .j .given .0 .0) (c .before .j .given .1)
+enum-known-asked : tie.Need-enum-known-asked
+enum-known-asked c = search needs
+
+returns : tie.Need-returns
+returns c =
+    let f = c .before .before .before in
+    let s = start f in
+    write-asked (state s) (s .pre .0) (s .pre .1) (s .args .number) (s .args .l) (s .args .n) (s .args .room) _ (asked f)
+    (c .before .asked .given .0 .0) (c .before .asked .given .1)
 
 enum-told : tie.Need-enum-told
 enum-told c = search needs
 
 totals-of-requires : tie.Need-totals-of-requires
-totals-of-requires c κs = sane-filled (lent (c .before .before .before .before .before .before .before .before .before .before .args .h) (c .before .before .before .before .before .before .before .before .before .before .args .ext .now) (c .before .before .before .before .before .before .before .before .before .before .args .blk .now) (c .before .before .before .before .before .before .before .before .before .before .args .spare .now)) (c .before .before .before .before .before .before .before .before .before .before .pre .0) (c .before .before .before .before .before .before .before .before .before .before .pre .1)
+totals-of-requires c κs = let s = start (c .before .before) in sane-filled (state s) (s .pre .0) (s .pre .1)
 
-returns-4 : tie.Need-returns-4
-returns-4 c = write-pages (lent (c .before .before .before .before .before .before .before .before .before .before .before .before .before .args .h) (c .before .before .before .before .before .before .before .before .before .before .before .before .before .args .ext .now) (c .before .before .before .before .before .before .before .before .before .before .before .before .before .args .blk .now) (c .before .before .before .before .before .before .before .before .before .before .before .before .before .args .spare .now)) (c .before .before .before .before .before .before .before .before .before .before .before .before .before .pre .0) (c .before .before .before .before .before .before .before .before .before .before .before .before .before .pre .1) (c .before .before .before .before .before .before .before .before .before .before .before .before .before .args .number) (c .before .before .before .before .before .before .before .before .before .before .before .before .before .args .l) (c .before .before .before .before .before .before .before .before .before .before .before .before .before .args .n) (c .before .before .before .before .before .before .before .before .before .before .before .before .before .args .room) _ (c .before .before .before .before .before .before .before .before .before .in-range .ensures) (c .before .before .before .before .before .before .before .before .if1 .left) (omega arith) _ (c .before .before .before .before .before .number-verdict .ensures) (c .before .before .before .enum-told .given .1) (omega (arith, device-free (lent (c .before .before .before .before .before .before .before .before .before .before .before .before .before .args .h) (c .before .before .before .before .before .before .before .before .before .before .before .before .before .args .ext .now) (c .before .before .before .before .before .before .before .before .before .before .before .before .before .args .blk .now) (c .before .before .before .before .before .before .before .before .before .before .before .before .before .args .spare .now)) (c .before .before .before .before .before .before .before .before .before .before .before .before .before .pre .0) (c .before .before .before .before .before .before .before .before .before .before .before .before .before .pre .1), c .before .before .totals-of .ensures .free))
+returns-2 : tie.Need-returns-2
+returns-2 c =
+    let totals = c .before .before in
+    let told = totals .before in
+    let f = told .before .before in
+    let s = start f in
+    write-pages (state s) (s .pre .0) (s .pre .1) (s .args .number) (s .args .l) (s .args .n) (s .args .room) _ (asked f) (told .enum-told .given .1)
+    (omega (arith, device-free (state s) (s .pre .0) (s .pre .1), totals .totals-of .ensures .free))
 
 pieces-of-requires : tie.Need-pieces-of-requires
-pieces-of-requires c κs = omega (arith, c .before .before .before .before .before .before .before .before .before .before .before .before .before .pre .0 .blocks)
-
-cast-if4 : tie.Need-cast-if4
-cast-if4 c = search needs
+pieces-of-requires c κs = let s = start (c .before .before .before .before .before) in omega (arith, s .pre .0 .blocks)
 
 nodes-after-requires : tie.Need-nodes-after-requires
 nodes-after-requires c κs =
-    let w = writable (lent (c .before .before .before .before .before .before .before .before .before .before .before .before .before .before .before .args .h) (c .before .before .before .before .before .before .before .before .before .before .before .before .before .before .before .args .ext .now) (c .before .before .before .before .before .before .before .before .before .before .before .before .before .before .before .args .blk .now) (c .before .before .before .before .before .before .before .before .before .before .before .before .before .before .before .args .spare .now)) (c .before .before .before .before .before .before .before .before .before .before .before .before .before .before .before .pre .0) (c .before .before .before .before .before .before .before .before .before .before .before .before .before .before .before .pre .1) (c .before .before .before .before .before .before .before .before .before .before .before .before .before .before .before .args .number) (c .before .before .before .before .before .before .before .before .before .before .before .before .before .before .before .args .l) (c .before .before .before .before .before .before .before .before .before .before .before .before .before .before .before .args .n) (c .before .before .before .before .before .before .before .before .before .before .before .before .before .before .before .args .room) _ (c .before .before .before .before .before .before .before .before .before .before .before .in-range .ensures) (c .before .before .before .before .before .before .before .before .before .before .if1 .left) (omega arith) _ (c .before .before .before .before .before .before .before .number-verdict .ensures) (c .before .before .before .before .before .enum-told .given .1) (omega (arith, device-free (lent (c .before .before .before .before .before .before .before .before .before .before .before .before .before .before .before .args .h) (c .before .before .before .before .before .before .before .before .before .before .before .before .before .before .before .args .ext .now) (c .before .before .before .before .before .before .before .before .before .before .before .before .before .before .before .args .blk .now) (c .before .before .before .before .before .before .before .before .before .before .before .before .before .before .before .args .spare .now)) (c .before .before .before .before .before .before .before .before .before .before .before .before .before .before .before .pre .0) (c .before .before .before .before .before .before .before .before .before .before .before .before .before .before .before .pre .1), c .before .before .before .before .totals-of .ensures .free)) in
-    (w, pieces-are (c .before .before .before .before .before .before .before .before .before .before .before .before .before .before .before .args .l) (c .before .before .before .before .before .before .before .before .before .before .before .before .before .before .before .args .n) (lent (c .before .before .before .before .before .before .before .before .before .before .before .before .before .before .before .args .h) (c .before .before .before .before .before .before .before .before .before .before .before .before .before .before .before .args .ext .now) (c .before .before .before .before .before .before .before .before .before .before .before .before .before .before .before .args .blk .now) (c .before .before .before .before .before .before .before .before .before .before .before .before .before .before .before .args .spare .now)) w _ (c .before .pieces-of .ensures (c .before .before .before .before .before .before .before .before .before .before .before .before .before .before .before .args .l)))
+    let totals = c .before .before .before in
+    let told = totals .before in
+    let f = told .before .before in
+    let s = start f in
+    let w = writable (state s) (s .pre .0) (s .pre .1) (s .args .number) (s .args .l) (s .args .n) (s .args .room) _ (asked f) (told .enum-told .given .1)
+    (omega (arith, device-free (state s) (s .pre .0) (s .pre .1), totals .totals-of .ensures .free)) in
+    (w, pieces-are (s .args .l) (s .args .n) (state s) w _ (c .pieces-of .ensures (s .args .l)))
 
-returns-5 : tie.Need-returns-5
-returns-5 c = write-many (lent (c .before .before .before .before .before .before .before .before .before .before .before .before .before .before .before .before .before .args .h) (c .before .before .before .before .before .before .before .before .before .before .before .before .before .before .before .before .before .args .ext .now) (c .before .before .before .before .before .before .before .before .before .before .before .before .before .before .before .before .before .args .blk .now) (c .before .before .before .before .before .before .before .before .before .before .before .before .before .before .before .before .before .args .spare .now)) (c .before .before .before .before .before .before .before .before .before .before .before .before .before .before .before .before .before .pre .0) (c .before .before .before .before .before .before .before .before .before .before .before .before .before .before .before .before .before .pre .1) (c .before .before .before .before .before .before .before .before .before .before .before .before .before .before .before .before .before .args .number) (c .before .before .before .before .before .before .before .before .before .before .before .before .before .before .before .before .before .args .l) (c .before .before .before .before .before .before .before .before .before .before .before .before .before .before .before .before .before .args .n) (c .before .before .before .before .before .before .before .before .before .before .before .before .before .before .before .before .before .args .room) _ (c .before .before .before .before .before .before .before .before .before .before .before .before .before .in-range .ensures) (c .before .before .before .before .before .before .before .before .before .before .before .before .if1 .left) (omega arith) _ (c .before .before .before .before .before .before .before .before .before .number-verdict .ensures) (c .before .before .before .before .before .before .before .enum-told .given .1) (omega (arith, device-free (lent (c .before .before .before .before .before .before .before .before .before .before .before .before .before .before .before .before .before .args .h) (c .before .before .before .before .before .before .before .before .before .before .before .before .before .before .before .before .before .args .ext .now) (c .before .before .before .before .before .before .before .before .before .before .before .before .before .before .before .before .before .args .blk .now) (c .before .before .before .before .before .before .before .before .before .before .before .before .before .before .before .before .before .args .spare .now)) (c .before .before .before .before .before .before .before .before .before .before .before .before .before .before .before .before .before .pre .0) (c .before .before .before .before .before .before .before .before .before .before .before .before .before .before .before .before .before .pre .1), c .before .before .before .before .before .before .totals-of .ensures .free)) (omega (arith, c .before .nodes-after .ensures))
+cast-fits : tie.Need-cast-fits
+cast-fits c = search needs
 
-cast-if5 : tie.Need-cast-if5
-cast-if5 c = search needs
+cast-listed : tie.Need-cast-listed
+cast-listed c = search needs
 
-returns-6 : tie.Need-returns-6
-returns-6 c =
-    let w = writable (lent (c .before .before .before .before .before .before .before .before .before .before .before .before .before .before .before .before .before .before .args .h) (c .before .before .before .before .before .before .before .before .before .before .before .before .before .before .before .before .before .before .args .ext .now) (c .before .before .before .before .before .before .before .before .before .before .before .before .before .before .before .before .before .before .args .blk .now) (c .before .before .before .before .before .before .before .before .before .before .before .before .before .before .before .before .before .before .args .spare .now)) (c .before .before .before .before .before .before .before .before .before .before .before .before .before .before .before .before .before .before .pre .0) (c .before .before .before .before .before .before .before .before .before .before .before .before .before .before .before .before .before .before .pre .1) (c .before .before .before .before .before .before .before .before .before .before .before .before .before .before .before .before .before .before .args .number) (c .before .before .before .before .before .before .before .before .before .before .before .before .before .before .before .before .before .before .args .l) (c .before .before .before .before .before .before .before .before .before .before .before .before .before .before .before .before .before .before .args .n) (c .before .before .before .before .before .before .before .before .before .before .before .before .before .before .before .before .before .before .args .room) _ (c .before .before .before .before .before .before .before .before .before .before .before .before .before .before .in-range .ensures) (c .before .before .before .before .before .before .before .before .before .before .before .before .before .if1 .left) (omega arith) _ (c .before .before .before .before .before .before .before .before .before .before .number-verdict .ensures) (c .before .before .before .before .before .before .before .before .enum-told .given .1) (omega (arith, device-free (lent (c .before .before .before .before .before .before .before .before .before .before .before .before .before .before .before .before .before .before .args .h) (c .before .before .before .before .before .before .before .before .before .before .before .before .before .before .before .before .before .before .args .ext .now) (c .before .before .before .before .before .before .before .before .before .before .before .before .before .before .before .before .before .before .args .blk .now) (c .before .before .before .before .before .before .before .before .before .before .before .before .before .before .before .before .before .before .args .spare .now)) (c .before .before .before .before .before .before .before .before .before .before .before .before .before .before .before .before .before .before .pre .0) (c .before .before .before .before .before .before .before .before .before .before .before .before .before .before .before .before .before .before .pre .1), c .before .before .before .before .before .before .before .totals-of .ensures .free)) in
-    write-short (lent (c .before .before .before .before .before .before .before .before .before .before .before .before .before .before .before .before .before .before .args .h) (c .before .before .before .before .before .before .before .before .before .before .before .before .before .before .before .before .before .before .args .ext .now) (c .before .before .before .before .before .before .before .before .before .before .before .before .before .before .before .before .before .before .args .blk .now) (c .before .before .before .before .before .before .before .before .before .before .before .before .before .before .before .before .before .before .args .spare .now)) (c .before .before .before .before .before .before .before .before .before .before .before .before .before .before .before .before .before .before .pre .0) (c .before .before .before .before .before .before .before .before .before .before .before .before .before .before .before .before .before .before .pre .1) (c .before .before .before .before .before .before .before .before .before .before .before .before .before .before .before .before .before .before .args .number) (c .before .before .before .before .before .before .before .before .before .before .before .before .before .before .before .before .before .before .args .l) (c .before .before .before .before .before .before .before .before .before .before .before .before .before .before .before .before .before .before .args .n) (c .before .before .before .before .before .before .before .before .before .before .before .before .before .before .before .before .before .before .args .room) _ (c .before .before .before .before .before .before .before .before .before .before .before .before .before .before .in-range .ensures) (c .before .before .before .before .before .before .before .before .before .before .before .before .before .if1 .left) (omega arith) _ (c .before .before .before .before .before .before .before .before .before .before .number-verdict .ensures) (c .before .before .before .before .before .before .before .before .enum-told .given .1) (omega (arith, device-free (lent (c .before .before .before .before .before .before .before .before .before .before .before .before .before .before .before .before .before .before .args .h) (c .before .before .before .before .before .before .before .before .before .before .before .before .before .before .before .before .before .before .args .ext .now) (c .before .before .before .before .before .before .before .before .before .before .before .before .before .before .before .before .before .before .args .blk .now) (c .before .before .before .before .before .before .before .before .before .before .before .before .before .before .before .before .before .before .args .spare .now)) (c .before .before .before .before .before .before .before .before .before .before .before .before .before .before .before .before .before .before .pre .0) (c .before .before .before .before .before .before .before .before .before .before .before .before .before .before .before .before .before .before .pre .1), c .before .before .before .before .before .before .before .totals-of .ensures .free)) (omega (arith, c .before .before .nodes-after .ensures))
-    (omega (arith, pieces-are (c .before .before .before .before .before .before .before .before .before .before .before .before .before .before .before .before .before .before .args .l) (c .before .before .before .before .before .before .before .before .before .before .before .before .before .before .before .before .before .before .args .n) (lent (c .before .before .before .before .before .before .before .before .before .before .before .before .before .before .before .before .before .before .args .h) (c .before .before .before .before .before .before .before .before .before .before .before .before .before .before .before .before .before .before .args .ext .now) (c .before .before .before .before .before .before .before .before .before .before .before .before .before .before .before .before .before .before .args .blk .now) (c .before .before .before .before .before .before .before .before .before .before .before .before .before .before .before .before .before .before .args .spare .now)) w _ (c .before .before .before .before .pieces-of .ensures (c .before .before .before .before .before .before .before .before .before .before .before .before .before .before .before .before .before .before .args .l))))
+unless-requires-2 : tie.Need-unless-requires-2
+unless-requires-2 c κs = search needs
 
-returns-7 : tie.Need-returns-7
-returns-7 c =
-    let w = writable (lent (c .before .before .before .before .before .before .before .before .before .before .before .before .before .before .before .before .before .before .args .h) (c .before .before .before .before .before .before .before .before .before .before .before .before .before .before .before .before .before .before .args .ext .now) (c .before .before .before .before .before .before .before .before .before .before .before .before .before .before .before .before .before .before .args .blk .now) (c .before .before .before .before .before .before .before .before .before .before .before .before .before .before .before .before .before .before .args .spare .now)) (c .before .before .before .before .before .before .before .before .before .before .before .before .before .before .before .before .before .before .pre .0) (c .before .before .before .before .before .before .before .before .before .before .before .before .before .before .before .before .before .before .pre .1) (c .before .before .before .before .before .before .before .before .before .before .before .before .before .before .before .before .before .before .args .number) (c .before .before .before .before .before .before .before .before .before .before .before .before .before .before .before .before .before .before .args .l) (c .before .before .before .before .before .before .before .before .before .before .before .before .before .before .before .before .before .before .args .n) (c .before .before .before .before .before .before .before .before .before .before .before .before .before .before .before .before .before .before .args .room) _ (c .before .before .before .before .before .before .before .before .before .before .before .before .before .before .in-range .ensures) (c .before .before .before .before .before .before .before .before .before .before .before .before .before .if1 .left) (omega arith) _ (c .before .before .before .before .before .before .before .before .before .before .number-verdict .ensures) (c .before .before .before .before .before .before .before .before .enum-told .given .1) (omega (arith, device-free (lent (c .before .before .before .before .before .before .before .before .before .before .before .before .before .before .before .before .before .before .args .h) (c .before .before .before .before .before .before .before .before .before .before .before .before .before .before .before .before .before .before .args .ext .now) (c .before .before .before .before .before .before .before .before .before .before .before .before .before .before .before .before .before .before .args .blk .now) (c .before .before .before .before .before .before .before .before .before .before .before .before .before .before .before .before .before .before .args .spare .now)) (c .before .before .before .before .before .before .before .before .before .before .before .before .before .before .before .before .before .before .pre .0) (c .before .before .before .before .before .before .before .before .before .before .before .before .before .before .before .before .before .before .pre .1), c .before .before .before .before .before .before .before .totals-of .ensures .free)) in
-    write-passes (lent (c .before .before .before .before .before .before .before .before .before .before .before .before .before .before .before .before .before .before .args .h) (c .before .before .before .before .before .before .before .before .before .before .before .before .before .before .before .before .before .before .args .ext .now) (c .before .before .before .before .before .before .before .before .before .before .before .before .before .before .before .before .before .before .args .blk .now) (c .before .before .before .before .before .before .before .before .before .before .before .before .before .before .before .before .before .before .args .spare .now)) (c .before .before .before .before .before .before .before .before .before .before .before .before .before .before .before .before .before .before .pre .0) (c .before .before .before .before .before .before .before .before .before .before .before .before .before .before .before .before .before .before .pre .1) (c .before .before .before .before .before .before .before .before .before .before .before .before .before .before .before .before .before .before .args .number) (c .before .before .before .before .before .before .before .before .before .before .before .before .before .before .before .before .before .before .args .l) (c .before .before .before .before .before .before .before .before .before .before .before .before .before .before .before .before .before .before .args .n) (c .before .before .before .before .before .before .before .before .before .before .before .before .before .before .before .before .before .before .args .room) _ (c .before .before .before .before .before .before .before .before .before .before .before .before .before .before .in-range .ensures) (c .before .before .before .before .before .before .before .before .before .before .before .before .before .if1 .left) (omega arith) _ (c .before .before .before .before .before .before .before .before .before .before .number-verdict .ensures) (c .before .before .before .before .before .before .before .before .enum-told .given .1) (omega (arith, device-free (lent (c .before .before .before .before .before .before .before .before .before .before .before .before .before .before .before .before .before .before .args .h) (c .before .before .before .before .before .before .before .before .before .before .before .before .before .before .before .before .before .before .args .ext .now) (c .before .before .before .before .before .before .before .before .before .before .before .before .before .before .before .before .before .before .args .blk .now) (c .before .before .before .before .before .before .before .before .before .before .before .before .before .before .before .before .before .before .args .spare .now)) (c .before .before .before .before .before .before .before .before .before .before .before .before .before .before .before .before .before .before .pre .0) (c .before .before .before .before .before .before .before .before .before .before .before .before .before .before .before .before .before .before .pre .1), c .before .before .before .before .before .before .before .totals-of .ensures .free)) (omega (arith, c .before .before .nodes-after .ensures))
-    (omega (arith, pieces-are (c .before .before .before .before .before .before .before .before .before .before .before .before .before .before .before .before .before .before .args .l) (c .before .before .before .before .before .before .before .before .before .before .before .before .before .before .before .before .before .before .args .n) (lent (c .before .before .before .before .before .before .before .before .before .before .before .before .before .before .before .before .before .before .args .h) (c .before .before .before .before .before .before .before .before .before .before .before .before .before .before .before .before .before .before .args .ext .now) (c .before .before .before .before .before .before .before .before .before .before .before .before .before .before .before .before .before .before .args .blk .now) (c .before .before .before .before .before .before .before .before .before .before .before .before .before .before .before .before .before .before .args .spare .now)) w _ (c .before .before .before .before .pieces-of .ensures (c .before .before .before .before .before .before .before .before .before .before .before .before .before .before .before .before .before .before .args .l))))
+unless-requires-3 : tie.Need-unless-requires-3
+unless-requires-3 c κs = search needs
+
+first-of-requires-2 : tie.Need-first-of-requires-2
+first-of-requires-2 c κs = search needs
+
+returns-3 : tie.Need-returns-3
+returns-3 c =
+    let many = c .before .before in
+    let nodes = many .before .before in
+    let pieces = nodes .before in
+    let totals = pieces .before .before .before in
+    let told = totals .before in
+    let f = told .before .before in
+    let s = start f in
+    let enough : s .args .n ≤ free (deviceOf (state s)) = omega (arith, device-free (state s) (s .pre .0) (s .pre .1), totals .totals-of .ensures .free) in
+    let w = writable (state s) (s .pre .0) (s .pre .1) (s .args .number) (s .args .l) (s .args .n) (s .args .room) _ (asked f) (told .enum-told .given .1) enough in
+    c .first-of2 .ensures
+    ∙ write-last (state s) (s .pre .0) (s .pre .1) (s .args .number) (s .args .l) (s .args .n) (s .args .room) _ (asked f) (told .enum-told .given .1) enough
+    (nodes .nodes-after .result) (pieces .pieces-of .result) (many .unless2 .result) (c .before .unless3 .result)
+    (nodes .nodes-after .ensures) (pieces-are (s .args .l) (s .args .n) (state s) w _ (pieces .pieces-of .ensures (s .args .l)))
+    (many .unless2 .ensures) (c .before .unless3 .ensures)
 
 pub write-verdict-spec : {M : Type 1} → statement M
 write-verdict-spec =
     tie.close
     (tie.spec
     in-range-requires
-    returns
-    returns-2
+    unless-requires
     number-verdict-requires
-    enum-known-j
-    returns-3
+    first-of-requires
+    enum-known-asked
+    returns
     enum-told
     totals-of-requires
-    returns-4
+    returns-2
     pieces-of-requires
-    cast-if4
     nodes-after-requires
-    returns-5
-    cast-if5
-    returns-6
-    returns-7)
+    cast-fits
+    cast-listed
+    unless-requires-2
+    unless-requires-3
+    first-of-requires-2
+    returns-3)
