@@ -4,7 +4,7 @@
 use Prim.Native.Nat.{ℕ, _+_, _-_, _*_}
 use mathlib.Core.Bool.{Bool, true, false, not, cond, _&&_, _||_}
 use mathlib.Core.Path.{_≡_}
-use mathlib.Core.List.{List, [], _∷_}
+use mathlib.Core.List.{List, [], _∷_, map}
 use lib.Dec.{eqb, ltb, leb}
 use lib.ListN.{length, getD, drop, replicate}
 use Rattle.rules.specs.Extents.{none}
@@ -12,7 +12,7 @@ use Rattle.rules.specs.Blocks.{stride}
 use Rattle.rules.specs.Lent.{Lent, lent}
 use Rattle.rules.specs.Shape.{sizes, lengths, shaped}
 use Rattle.rules.specs.Sound.{sound}
-use Rattle.rules.specs.Device.{free, stale, extents, deviceOf}
+use Rattle.rules.specs.Device.{free, live, stale, extents, deviceOf}
 use Rattle.rules.specs.Answers.{Outcome, number}
 use Rattle.rules.specs.Calls.{Call, leaves, lists, buffer, acceptedOn, call, fresh}
 use Rattle.rules.specs.declared.Refusal.{Refusal}
@@ -20,7 +20,11 @@ use Rattle.demands.specs.Requests.{isWrite, numberOf, startOf, countOf}
 
 -- ---- 01, Refusals: the table
 
--- its columns "no." and "calls": the refusals of a call, in the order in which they are checked; reclaim checks 8 directly after 2
+abbrev pub refusals : List Refusal
+refusals =
+    Refusal.Shape ∷ Refusal.Damaged ∷ Refusal.Range ∷ Refusal.Applied ∷ Refusal.NoPages ∷ Refusal.NoNodes ∷ Refusal.OutShort ∷ Refusal.NothingStale ∷ []
+
+-- its column "calls": the refusals of a call, in the order in which they are checked; reclaim checks 8 directly after 2
 abbrev pub order : Call → List Refusal
 order (Call.write k l n out) = Refusal.Shape ∷ Refusal.Damaged ∷ Refusal.Range ∷ Refusal.Applied ∷ Refusal.NoPages ∷ Refusal.NoNodes ∷ Refusal.OutShort ∷ []
 order (Call.trim k l n) = Refusal.Shape ∷ Refusal.Damaged ∷ Refusal.Range ∷ Refusal.Applied ∷ Refusal.NoNodes ∷ []
@@ -85,5 +89,10 @@ pub record FreshAnswers (b n l m : ℕ) (extents blocks spare : List ℕ) (o : O
   pub out : o .out ≡ []
 
 pub record Demand1 : Type 0 where
+  -- the table's column "no."
+  pub numbers : map number refusals ≡ 1 ∷ 2 ∷ 3 ∷ 4 ∷ 5 ∷ 6 ∷ 7 ∷ 8 ∷ []
   pub calls : (c : Call) (s : Lent) → Answers c s (call c s)
+  -- report gives free, live and stale
+  pub reports : (s : Lent) → call Call.report s .refusal ≡ 0
+      → call Call.report s .counts ≡ free (deviceOf s) ∷ live (deviceOf s) ∷ stale (deviceOf s) ∷ []
   pub freshes : (b n l m : ℕ) (extents blocks spare : List ℕ) → FreshAnswers b n l m extents blocks spare (fresh b n l m extents blocks spare)

@@ -10,7 +10,6 @@ use lib.ListN.{length}
 use Rattle.rules.specs.Counting.{count}
 use Rattle.rules.specs.Lent.{Lent, validOf}
 use Rattle.rules.specs.Device.{Device, at, mapped, deviceOf}
-use Rattle.rules.specs.Answers.{number}
 use Rattle.rules.specs.Number.{usedUp}
 use Rattle.rules.specs.Calls.{Call, buffer, call}
 use Rattle.rules.specs.declared.Refusal.{Refusal}
@@ -20,10 +19,10 @@ use Rattle.demands.specs.Demand1.{given}
 
 -- ---- a request that does nothing
 
--- request b in world v is refused: 3 where it is not in range, and otherwise as one whose number is used up (4). Nothing changes: not the head, not a
+-- request b in world v is refused: 3 where it is not in range, and otherwise as one whose number is used up (`usedUp`: 4). Nothing changes: not the head, not a
 -- lent word, not the answer buffer, not the flash
 pub record Nothing (b : Ask) (v : World) : Type 0 where
-  pub outside : given (b .request) (v .state) Refusal.Range ≡ true → call (b .request) (v .state) .refusal ≡ number Refusal.Range
+  pub outside : given (b .request) (v .state) Refusal.Range ≡ true → call (b .request) (v .state) .refusal ≡ 3
   pub inside : given (b .request) (v .state) Refusal.Range ≡ false → usedUp (call (b .request) (v .state) .refusal) ≡ true
   pub state : call (b .request) (v .state) .after ≡ v .state
   pub out : call (b .request) (v .state) .out ≡ buffer (b .request)
@@ -64,7 +63,7 @@ pub record AppliedOnce (w : World) : Type 0 where
       → call (a .request) (w .state) .refusal ≡ 0 → numberOf (b .request) ≤ numberOf (a .request) → Nothing b (run further (step a w))
   -- the very same request is refused exactly 4
   pub same : (a : Ask) (new : List ℕ) (further : List Ask) → carries (a .request) ≡ true
-      → call (a .request) (w .state) .refusal ≡ 0 → call (again (a .request) new) (run further (step a w) .state) .refusal ≡ number Refusal.Applied
+      → call (a .request) (w .state) .refusal ≡ 0 → call (again (a .request) new) (run further (step a w) .state) .refusal ≡ 4
   -- an accepted write or trim lowers each block's valid count once for each page of its range that the block held, and raises it once for each that it
   -- holds now
   pub lowers : (a : Ask) → carries (a .request) ≡ true → call (a .request) (w .state) .refusal ≡ 0 → (b : ℕ) → b < w .state .head .blocks

@@ -1,7 +1,7 @@
 -- The demands and the double refund as theorems. Each statement is a record of the file that has its name; the proofs are in the files below.
 use Prim.Native.Nat.{ℕ, _*_, _-_, _≤_}
 use mathlib.Core.Bool.{true}
-use mathlib.Core.Path.{_≡_, sym, ap, _∙_, subst}
+use mathlib.Core.Path.{_≡_, refl, sym, subst}
 use mathlib.Core.List.{List}
 use native.Mathlib.Omega.{arith}
 use lib.ListN.{length}
@@ -17,7 +17,7 @@ use Rattle.demands.specs.Demand1.{Demand1}
 use Rattle.demands.specs.Demand2.{Demand2, beginFresh}
 use Rattle.demands.specs.Demand3.{Asked, until, Settles, Demand3}
 use Rattle.demands.specs.Once.{AppliedOnce}
-use Rattle.demands.specs.Refusals.{answers, fresh-answers}
+use Rattle.demands.specs.Refusals.{answers, reports, fresh-answers}
 use Rattle.demands.specs.Starts.{begin-holds, fresh-good, fresh-holds, fresh-leaves}
 use Rattle.demands.specs.Histories.{holds-demand}
 use Rattle.demands.specs.Settling.{settles, wide-enough, write-enough}
@@ -25,7 +25,7 @@ use Rattle.demands.specs.Repeats.{begins-once}
 
 -- every request on every lent state
 pub demand-1 : Demand1
-demand-1 = record { calls = answers; freshes = fresh-answers }
+demand-1 = record { numbers = refl; calls = answers; reports = reports; freshes = fresh-answers }
 
 -- from an accepted fresh, whatever words were lent to it, on erased flash
 pub demand-2 : (b n l m : ℕ) (extents blocks spare : List ℕ) → fresh b n l m extents blocks spare .refusal ≡ 0 → (asks : List Ask)

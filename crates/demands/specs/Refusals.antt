@@ -13,13 +13,13 @@ use Rattle.rules.specs.declared.Extent.{Extent}
 use Rattle.rules.specs.Lent.{Lent, lent}
 use Rattle.rules.specs.Shape.{sizes, lengths, shaped}
 use Rattle.rules.specs.Sound.{sound}
-use Rattle.rules.specs.Device.{Device, lines, free, stale, extents, deviceOf, wordsOf}
+use Rattle.rules.specs.Device.{Device, lines, free, live, stale, extents, deviceOf, wordsOf}
 use Rattle.rules.specs.Placement.{targets, puts, pieces}
 use Rattle.rules.specs.Reclaim.{victim, sources, reclaimedAt, reclaimed}
 use Rattle.rules.specs.Read.{found}
 use Rattle.rules.specs.Number.{applied, judged, withTable, numbered, written, trimmed}
 use Rattle.rules.specs.Answers.{Outcome, number, refuse}
-use Rattle.rules.specs.Calls.{Call, outside, tooMany, writeRefusal, trimRefusal, readRefusal, reclaimRefusal, refusal, leaves, lists, buffer, over, zeros, refused, verdict, acceptedOn, call, freshDevice, sizesOnly, fresh}
+use Rattle.rules.specs.Calls.{Call, outside, tooMany, writeRefusal, trimRefusal, readRefusal, reclaimRefusal, refusal, counts, leaves, lists, buffer, over, zeros, refused, verdict, acceptedOn, call, freshDevice, sizesOnly, fresh}
 use Rattle.rules.specs.declared.Refusal.{Refusal}
 use Rattle.laws.specs.Bools.{and-split}
 use Rattle.laws.specs.Cells.{replicate-at}
@@ -126,6 +126,10 @@ answers c s = record {
   accepted = accepted-on c s;
   rest = λ e. ap (λ (o : Outcome Lent). drop (length (lists c (deviceOf s))) (o .out)) (accepted-on c s e) ∙ beyond c s;
 }
+
+pub reports : (s : Lent) → call Call.report s .refusal ≡ 0 → call Call.report s .counts ≡ free (deviceOf s) ∷ live (deviceOf s) ∷ stale (deviceOf s) ∷ []
+unfolding acceptedOn counts
+reports s e = ap (λ (o : Outcome Lent). o .counts) (accepted-on Call.report s e)
 
 -- ---- fresh
 
