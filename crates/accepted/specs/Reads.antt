@@ -8,7 +8,7 @@ use lib.ListN.{length}
 use Rattle.rules.specs.Extents.{none, end, flat}
 use Rattle.rules.specs.Lent.{Lent, inUse}
 use Rattle.rules.specs.Device.{deviceOf, wordsOf}
-use Rattle.rules.specs.Read.{hole, holes, found}
+use Rattle.rules.specs.Read.{withHole, withHoles, found}
 use Rattle.rules.specs.Calls.{Call, counts, leaves, lists, over}
 use Rattle.rules.specs.declared.Extent.{Extent}
 use Rattle.laws.specs.Bools.{cases}
@@ -24,14 +24,14 @@ use Rattle.accepted.specs.Accepts.{Ready}
 
 -- ---- a piece for each extent and a hole for each gap, at most
 
-hole-length : (a b : ℕ) (es : List Extent) → length (hole a b es) ≤ suc (length es)
-unfolding hole
+hole-length : (a b : ℕ) (es : List Extent) → length (withHole a b es) ≤ suc (length es)
+unfolding withHole
 hole-length a b es = cases (ltb a b) (λ e. rw e (omega arith)) (λ e. rw e (omega arith))
 
-holes-length : (a b : ℕ) (es : List Extent) → length (holes a b es) ≤ 2 * length es + 1
-unfolding holes
+holes-length : (a b : ℕ) (es : List Extent) → length (withHoles a b es) ≤ 2 * length es + 1
+unfolding withHoles
 holes-length a b [] = omega (arith, hole-length a b [])
-holes-length a b (e ∷ es) = omega (arith, hole-length a (e .logical) (e ∷ holes (end e) b es), holes-length (end e) b es)
+holes-length a b (e ∷ es) = omega (arith, hole-length a (e .logical) (e ∷ withHoles (end e) b es), holes-length (end e) b es)
 
 few-pieces : (n hi l e : ℕ) (es : List Extent) → e ≤ hi → l ≤ hi → Rows n 0 none hi es → length (between l e es) ≤ 2 * length es + 1
 few-pieces n hi l e es g f h =
@@ -60,7 +60,7 @@ module _ (l n : ℕ) (out : List ℕ) (s : Lent) (z : Ready (Call.read l n out) 
   is-found : found l n (deviceOf s) ≡ between l (l + n) (inUse s)
   is-found = found-words s (z .shape) (z .sane) l n (read-inside .1)
 
-  pub read-slots : 3 * s .head .used ≤ length (s .extents)
+  pub read-slots : 3 * s .head .used ≤ length (s .extentWords)
   read-slots = omega (arith, z .shape .extents, z .sane .few)
 
   pub read-fits : 3 * length (between l (l + n) (inUse s)) ≤ length out
@@ -72,7 +72,7 @@ module _ (l n : ℕ) (out : List ℕ) (s : Lent) (z : Ready (Call.read l n out) 
       omega (
         arith,
         few-pieces (s .head .pages) (s .head .logical) l (l + n) (inUse s) (i .1) (omega arith) (z .sane .rows),
-        slots-length (s .extents) 0 (s .head .used),
+        slots-length (s .extentWords) 0 (s .head .used),
         z .sane .few,
         z .shape .sizes .m-high,
       )

@@ -25,10 +25,10 @@ module _ (s : Lent) (e : (shaped s ≡ true) × (sound s ≡ true)) where
   sane : Sane s
   sane = sound-sane s shape (e .1)
 
-  pub report-filled : Filled (s .head) (s .blocks)
+  pub report-filled : Filled (s .head) (s .blockWords)
   report-filled = sane-filled s shape sane
 
-module _ (s : Lent) (t : Totals) (e : (shaped s ≡ true) × (sound s ≡ true)) (w : Totalled (s .head) (s .blocks) t) where
+module _ (s : Lent) (t : Totals) (e : (shaped s ≡ true) × (sound s ≡ true)) (w : Totalled (s .head) (s .blockWords) t) where
   three : counts Call.report (deviceOf s) ≡ t .free ∷ t .live ∷ t .stale ∷ []
   unfolding counts
   three =
@@ -36,7 +36,7 @@ module _ (s : Lent) (t : Totals) (e : (shaped s ≡ true) × (sound s ≡ true))
       ∷ (device-live s (shape s e) (sane s e) ∙ sym (w .live)) i
       ∷ (device-stale s (shape s e) (sane s e) ∙ sym (w .stale)) i ∷ []
 
-  pub report-counts : outcome (said 0 (t .free ∷ t .live ∷ t .stale ∷ []) (s .head)) (s .extents) (s .blocks) (s .spare) [] ≡ call Call.report s
+  pub report-counts : outcome (said 0 (t .free ∷ t .live ∷ t .stale ∷ []) (s .head)) (s .extentWords) (s .blockWords) (s .spare) [] ≡ call Call.report s
   unfolding acceptedOn leaves lists over refusal
   report-counts =
       sym (λ i. record { refusal = 0; counts = three i; after = device-is s (e .0) (e .1) i; out = [] })

@@ -10,11 +10,11 @@ use borrow.Author.Tests.{ne-eqb}
 use lib.Dec.{eqb}
 use lib.ListN.{length, getD, replicate, List·getD-eq-default}
 use Rattle.rules.specs.Counting.{sum, count}
-use Rattle.rules.specs.Extents.{none, lookup, slot, slots, flat}
+use Rattle.rules.specs.Extents.{none, lookup, slot, slotsFrom, flat}
 use Rattle.rules.specs.Blocks.{stride, fillWord, validWord, records}
 use Rattle.rules.specs.Lent.{Lent, lent, inUse, fillOf, validOf}
 use Rattle.rules.specs.Device.{Device, blocks, lines, at, mapped, valid, extents, deviceOf, headOf, wordsOf}
-use Rattle.rules.specs.Number.{withTable, trimmed}
+use Rattle.rules.specs.Request.{withTable, trimmed}
 use Rattle.rules.specs.Calls.{Call, counts, leaves, lists, over}
 use Rattle.rules.specs.declared.Head.{Head}
 use Rattle.rules.specs.declared.Extent.{Extent}
@@ -49,8 +49,8 @@ holed l n s = trimmed 0 l n (deviceOf s)
 
 -- the words of it: what is left of the extents in the first u slots, and its block records
 pub record Holed (l n : ℕ) (s : Lent) (u : ℕ) (ext blk : List ℕ) : Type 0 where
-  pub map : Becomes (length (s .extents)) (cut l (l + n) (inUse s)) ext u
-  pub blocks : blk ≡ wordsOf (holed l n s) .blocks
+  pub map : Becomes (length (s .extentWords)) (cut l (l + n) (inUse s)) ext u
+  pub blocks : blk ≡ wordsOf (holed l n s) .blockWords
 
 module _ (l n : ℕ) (s : Lent) (z : Cut l n s) where
   abbrev d : Device
@@ -62,7 +62,7 @@ module _ (l n : ℕ) (s : Lent) (z : Cut l n s) where
   pub cut-line : l + n ≤ 262144
   cut-line = omega (arith, z .inside, lines-pages (z .shape .sizes), pages-high (z .shape .sizes))
 
-  pub cut-slots : 3 * s .head .used ≤ length (s .extents)
+  pub cut-slots : 3 * s .head .used ≤ length (s .extentWords)
   cut-slots = omega (arith, z .shape .extents, z .sane .few)
 
   -- ---- the extents
@@ -72,9 +72,9 @@ module _ (l n : ℕ) (s : Lent) (z : Cut l n s) where
       ap (cut l (l + n)) (sym (extents-in-use s (z .shape) (z .sane)))
       ∙ trim-extents 0 l n (deviceOf s) (good .sound) (z .some) (omega (arith, z .inside, device-lines s))
 
-  pub cuttable : Cuttable (s .extents) (s .head .used) l (l + n)
+  pub cuttable : Cuttable (s .extentWords) (s .head .used) l (l + n)
   cuttable = record {
-    held = zeros-holds (s .extents) (s .head .used) cut-slots (z .sane .zeros);
+    held = zeros-holds (s .extentWords) (s .head .used) cut-slots (z .sane .zeros);
     sound = record { pages = s .head .pages; logical = s .head .logical; rows = z .sane .rows };
     range = omega (arith, z .some);
     room = omega (arith, ap length cut-extents, z .nodes, z .shape .extents);
@@ -84,11 +84,11 @@ module _ (l n : ℕ) (s : Lent) (z : Cut l n s) where
   unfolding trimmed withTable deviceOf
   slots-same = refl
 
-  pub cut-words : (ext : List ℕ) → ext ≡ padded (length (s .extents)) (cut l (l + n) (inUse s)) → ext ≡ wordsOf (holed l n s) .extents
+  pub cut-words : (ext : List ℕ) → ext ≡ padded (length (s .extentWords)) (cut l (l + n) (inUse s)) → ext ≡ wordsOf (holed l n s) .extentWords
   unfolding padded wordsOf
   cut-words ext e =
-      let k : length (s .extents) - 3 * length (extents (holed l n s)) ≡ 3 * (holed l n s .slots - length (extents (holed l n s))) = omega (arith, z .shape .extents, slots-same) in
-      e ∙ ap (λ (es : List Extent). flat es ++ replicate (length (s .extents) - 3 * length es) 0) cut-extents
+      let k : length (s .extentWords) - 3 * length (extents (holed l n s)) ≡ 3 * (holed l n s .slots - length (extents (holed l n s))) = omega (arith, z .shape .extents, slots-same) in
+      e ∙ ap (λ (es : List Extent). flat es ++ replicate (length (s .extentWords) - 3 * length es) 0) cut-extents
       ∙ ap (λ (m : ℕ). flat (extents (holed l n s)) ++ replicate m 0) k
 
   -- ---- the blocks
@@ -102,29 +102,29 @@ module _ (l n : ℕ) (s : Lent) (z : Cut l n s) where
   lost c h =
       count-same n (λ i. eqb (at (deviceOf s) (l + i) / s .head .pages) c) (λ i. eqb (lookup (inUse s) (l + i) / s .head .pages) c)
       (λ i p. ap (λ (x : ℕ). eqb (x / s .head .pages) c) (device-at s (l + i) (omega (arith, z .inside))))
-      ∙ in-range-slots (s .head .pages) (s .head .logical) c (not-none c h) (s .extents) (s .head .used) 0 none (z .sane .rows) l n
-      ∙ sym (total-slots (inRange (s .head .pages) c l (l + n)) (s .extents) (s .head .used))
+      ∙ in-range-slots (s .head .pages) (s .head .logical) c (not-none c h) (s .extentWords) (s .head .used) 0 none (z .sane .rows) l n
+      ∙ sym (total-slots (inRange (s .head .pages) c l (l + n)) (s .extentWords) (s .head .used))
 
   held : (c : ℕ) → c < s .head .blocks → total (inRange (s .head .pages) c 0 (s .head .logical)) (inUse s) ≡ validOf s c
   held c h =
       let top : s .head .logical ≡ 0 + s .head .logical = omega arith in
-      total-slots (inRange (s .head .pages) c 0 (s .head .logical)) (s .extents) (s .head .used)
-      ∙ ap (λ (x : ℕ). sum (s .head .used) (λ i. inRange (s .head .pages) c 0 x (slot (s .extents) i))) top
-      ∙ sym (in-range-slots (s .head .pages) (s .head .logical) c (not-none c h) (s .extents) (s .head .used) 0 none (z .sane .rows) 0 (s .head .logical))
+      total-slots (inRange (s .head .pages) c 0 (s .head .logical)) (s .extentWords) (s .head .used)
+      ∙ ap (λ (x : ℕ). sum (s .head .used) (λ i. inRange (s .head .pages) c 0 x (slot (s .extentWords) i))) top
+      ∙ sym (in-range-slots (s .head .pages) (s .head .logical) c (not-none c h) (s .extentWords) (s .head .used) 0 none (z .sane .rows) 0 (s .head .logical))
       ∙ count-same (s .head .logical) (λ i. eqb (lookup (inUse s) (0 + i) / s .head .pages) c) (λ i. eqb (lookup (inUse s) i / s .head .pages) c)
       (λ i p. let e : 0 + i ≡ i = omega arith in ap (λ (x : ℕ). eqb (lookup (inUse s) x / s .head .pages) c) e)
-      ∙ in-slots (s .head .pages) (s .head .logical) c (not-none c h) (s .extents) (s .head .used) (z .sane .rows)
+      ∙ in-slots (s .head .pages) (s .head .logical) c (not-none c h) (s .extentWords) (s .head .used) (z .sane .rows)
       ∙ sym (z .sane .counts c h)
 
   -- no slot lies in a block that is not there
   nowhere : (c : ℕ) → s .head .blocks ≤ c → total (inRange (s .head .pages) c l (l + n)) (inUse s) ≡ 0
   unfolding inRange
   nowhere c h =
-      total-slots (inRange (s .head .pages) c l (l + n)) (s .extents) (s .head .used)
-      ∙ sum-zero (s .head .used) (λ i. inRange (s .head .pages) c l (l + n) (slot (s .extents) i))
-      (λ i p. rw (ne-eqb (slot (s .extents) i .physical / s .head .pages) c (λ g. omega (arith, z .sane .inside i p))))
+      total-slots (inRange (s .head .pages) c l (l + n)) (s .extentWords) (s .head .used)
+      ∙ sum-zero (s .head .used) (λ i. inRange (s .head .pages) c l (l + n) (slot (s .extentWords) i))
+      (λ i p. rw (ne-eqb (slot (s .extentWords) i .physical / s .head .pages) c (λ g. omega (arith, z .sane .inside i p))))
 
-  pub lowerable : Lowerable (s .extents) (s .head .used) (s .head .pages) l (l + n) (s .blocks)
+  pub lowerable : Lowerable (s .extentWords) (s .head .used) (s .head .pages) l (l + n) (s .blockWords)
   lowerable = record {
     within = cut-slots;
     some = z .shape .sizes .n-low;
@@ -134,7 +134,7 @@ module _ (l n : ℕ) (s : Lent) (z : Cut l n s) where
         (λ h. omega (arith, nowhere b (omega arith)));
   }
 
-  pub lowered-words : (blk : List ℕ) → Lowered (s .head .pages) l (l + n) (inUse s) (s .blocks) blk → blk ≡ wordsOf (holed l n s) .blocks
+  pub lowered-words : (blk : List ℕ) → Lowered (s .head .pages) l (l + n) (inUse s) (s .blockWords) blk → blk ≡ wordsOf (holed l n s) .blockWords
   unfolding wordsOf trimmed withTable deviceOf
   lowered-words blk w =
       sym (words-records (s .head .blocks) blk 0 (fillOf s) (valid (holed l n s)) (w .size ∙ z .shape .blocks)
@@ -152,8 +152,8 @@ module _ (l n : ℕ) (s : Lent) (z : Cut l n s) where
             w .valids b,
           )
 
-  pub holed-is : (used : ℕ) (ext blk : List ℕ) → Becomes (length (s .extents)) (cut l (l + n) (inUse s)) ext used
-      → Lowered (s .head .pages) l (l + n) (inUse s) (s .blocks) blk → Holed l n s used ext blk
+  pub holed-is : (used : ℕ) (ext blk : List ℕ) → Becomes (length (s .extentWords)) (cut l (l + n) (inUse s)) ext used
+      → Lowered (s .head .pages) l (l + n) (inUse s) (s .blockWords) blk → Holed l n s used ext blk
   holed-is used ext blk b w = record { map = b; blocks = lowered-words blk w }
 
 -- ---- a trim

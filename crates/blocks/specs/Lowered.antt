@@ -12,7 +12,7 @@ use lib.ListN.{length, set, length-set}
 use lib.Seq.{getD-set-same, getD-set-other}
 use Rattle.rules.specs.Counting.{sum}
 use Rattle.rules.specs.Blocks.{stride, fillWord, validWord}
-use Rattle.rules.specs.Extents.{slot, slots}
+use Rattle.rules.specs.Extents.{slot, slotsFrom}
 use Rattle.rules.specs.declared.Extent.{Extent}
 use Rattle.laws.specs.Bools.{cases}
 use Rattle.laws.specs.Tallies.{overlap, inRange, total, total-slots}
@@ -28,7 +28,7 @@ pub record Lowerable (ws : List ℕ) (u n l e : ℕ) (blk : List ℕ) : Type 0 w
   pub within : 3 * u ≤ length ws
   pub some : 0 < n
   pub inside : (i : ℕ) → i < u → stride * (slot ws i .physical / n) + 1 < length blk
-  pub enough : (b : ℕ) → total (inRange n b l e) (slots ws 0 u) ≤ validWord blk b
+  pub enough : (b : ℕ) → total (inRange n b l e) (slotsFrom ws 0 u) ≤ validWord blk b
 
 -- ---- one extent
 
@@ -72,21 +72,21 @@ lowered-set n l e b c w v x blk blk′ p q y s h d g =
 -- ---- slot by slot
 
 module _ (n l e : ℕ) (ws : List ℕ) where
-  one-more : (b i : ℕ) → total (inRange n b l e) (slots ws 0 (i + 1)) ≡ total (inRange n b l e) (slots ws 0 i) + inRange n b l e (slot ws i)
+  one-more : (b i : ℕ) → total (inRange n b l e) (slotsFrom ws 0 (i + 1)) ≡ total (inRange n b l e) (slotsFrom ws 0 i) + inRange n b l e (slot ws i)
   unfolding sum
   one-more b i =
       total-slots (inRange n b l e) ws (i + 1) ∙ ap (λ (k : ℕ). sum k (λ j. inRange n b l e (slot ws j))) (add-one i)
       ∙ ap (λ (k : ℕ). k + inRange n b l e (slot ws i)) (sym (total-slots (inRange n b l e) ws i))
 
-  up-to : (b i d : ℕ) → total (inRange n b l e) (slots ws 0 i) ≤ total (inRange n b l e) (slots ws 0 (i + d))
+  up-to : (b i d : ℕ) → total (inRange n b l e) (slotsFrom ws 0 i) ≤ total (inRange n b l e) (slotsFrom ws 0 (i + d))
   up-to b i zero = let k : i ≡ i + 0 = omega arith in rw (← k) (omega arith)
   up-to b i (suc d) = let k : i + suc d ≡ i + d + 1 = omega arith in rw k (omega (arith, up-to b i d, one-more b (i + d)))
 
-  pub lowered-start : (blk : List ℕ) → Lowered n l e (slots ws 0 0) blk blk
-  unfolding total slots
+  pub lowered-start : (blk : List ℕ) → Lowered n l e (slotsFrom ws 0 0) blk blk
+  unfolding total slotsFrom
   lowered-start blk = record { size = refl; fills = λ b. refl; valids = λ b. omega arith }
 
-  pub lowered-more : (i : ℕ) (blk mid blk′ : List ℕ) → Lowered n l e (slots ws 0 i) blk mid → Lowered n l e (slot ws i ∷ []) mid blk′ → Lowered n l e (slots ws 0 (i + 1)) blk blk′
+  pub lowered-more : (i : ℕ) (blk mid blk′ : List ℕ) → Lowered n l e (slotsFrom ws 0 i) blk mid → Lowered n l e (slot ws i ∷ []) mid blk′ → Lowered n l e (slotsFrom ws 0 (i + 1)) blk blk′
   lowered-more i blk mid blk′ h g = record {
     size = g .size ∙ h .size;
     fills = λ b. g .fills b ∙ h .fills b;
@@ -94,12 +94,12 @@ module _ (n l e : ℕ) (ws : List ℕ) where
   }
 
   -- its block still has what slot i takes
-  pub lowered-enough : (u i : ℕ) (blk mid : List ℕ) → Lowerable ws u n l e blk → i < u → Lowered n l e (slots ws 0 i) blk mid
+  pub lowered-enough : (u i : ℕ) (blk mid : List ℕ) → Lowerable ws u n l e blk → i < u → Lowered n l e (slotsFrom ws 0 i) blk mid
       → overlap (slot ws i) l e ≤ validWord mid (slot ws i .physical / n)
   lowered-enough u i blk mid p s h =
       let b = slot ws i .physical / n in
       let k : i + 1 + (u - (i + 1)) ≡ u = omega arith in
-      let most : total (inRange n b l e) (slots ws 0 (i + 1)) ≤ total (inRange n b l e) (slots ws 0 u) = rw k at (up-to b (i + 1) (u - (i + 1))) in
+      let most : total (inRange n b l e) (slotsFrom ws 0 (i + 1)) ≤ total (inRange n b l e) (slotsFrom ws 0 u) = rw k at (up-to b (i + 1) (u - (i + 1))) in
       omega (arith, p .enough b, h .valids b, one-more b i, in-block n b l e (slot ws i) refl)
 
 -- ---- what a block holds is enough for a part of the lines

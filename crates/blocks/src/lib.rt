@@ -3,7 +3,7 @@ ghost use mathlib.Core.Path.{_≡_};
 ghost use Prim.Native.Nat.{_+_, _-_, _*_, _/_, _<_, _≤_, min, max};
 ghost use mathlib.Core.List.{[], _∷_};
 ghost use lib.ListN.{length};
-ghost use Rattle.rules.specs.Extents.{slot, slots};
+ghost use Rattle.rules.specs.Extents.{slot, slotsFrom};
 ghost use Rattle.rules.specs.Blocks.{stride, validWord};
 ghost use Rattle.laws.specs.Tallies.{overlap};
 ghost use Rattle.blocks.specs.Lowered.{Lowered, Lowerable};
@@ -66,7 +66,7 @@ fn lower_slot(ext: &[u32], i: usize, pages: u32, l: u32, e: u32, blk: &mut [u32]
 // Each block loses the pages that extents in use have in it from l up to e.
 pub fn lower(ext: &[u32], used: usize, pages: u32, l: u32, e: u32, blk: &mut [u32])
     requires { ⌜ Lowerable (now ext) used pages l e (now blk) ⌝ }
-    ensures { λ _. ⌜ Lowered pages l e (slots (now (ext .entry)) 0 used) (now (blk .entry)) (now (blk .exit)) ⌝ }
+    ensures { λ _. ⌜ Lowered pages l e (slotsFrom (now (ext .entry)) 0 used) (now (blk .entry)) (now (blk .exit)) ⌝ }
 {
     let mut i: usize = 0;
     while i < used {

@@ -14,7 +14,7 @@ use lib.Dec.{eqb, ltb}
 use lib.ListN.{length, getD, set, replicate, length-replicate, getD-replicate}
 use lib.Seq.{sets, length-sets}
 use Rattle.rules.specs.Counting.{one, sum, count}
-use Rattle.rules.specs.Extents.{none, slot, slots}
+use Rattle.rules.specs.Extents.{none, slot, slotsFrom}
 use Rattle.rules.specs.declared.Extent.{Extent}
 use Rattle.laws.specs.Bools.{cases}
 use Rattle.laws.specs.Sums.{count-sum, sum-same, count-le, count-same, count-rise}
@@ -93,18 +93,18 @@ module _ (e : Extent) (n v : ℕ) (ms : List ℕ) where
 
 -- what the marks say after u slots
 abbrev pub Marks : List ℕ → ℕ → ℕ → ℕ → List ℕ → Type 0
-Marks ws u n v ms = (o : ℕ) → o < n → getD ms o 0 ≡ one (covered (slots ws 0 u) n v o)
+Marks ws u n v ms = (o : ℕ) → o < n → getD ms o 0 ≡ one (covered (slotsFrom ws 0 u) n v o)
 
 pub marks-none : (ws : List ℕ) (n v : ℕ) (ms : List ℕ) → ((o : ℕ) → o < n → getD ms o 0 ≡ 0) → Marks ws 0 n v ms
-unfolding slots covered
+unfolding slotsFrom covered
 marks-none ws n v ms h o s = h o s
 
 pub marks-more : (ws : List ℕ) (u n v : ℕ) (ms ms′ : List ℕ) → slot ws u .physical % n + slot ws u .count ≤ n → n ≤ length ms
     → Marks ws u n v ms → ms′ ≡ marked (slot ws u) n v ms → Marks ws (u + 1) n v ms′
 marks-more ws u n v ms ms′ s l m e o h =
     ap (λ (xs : List ℕ). getD xs o 0) e
-    ∙ marked-at (slot ws u) n v ms s l o h (covered (slots ws 0 u) n v o) (m o h)
-    ∙ ap one (sym (covered-more (slots ws 0 u) (slot ws u) n v o) ∙ ap (λ (es : List Extent). covered es n v o) (sym (slots-more ws 0 u u (omega arith))))
+    ∙ marked-at (slot ws u) n v ms s l o h (covered (slotsFrom ws 0 u) n v o) (m o h)
+    ∙ ap one (sym (covered-more (slotsFrom ws 0 u) (slot ws u) n v o) ∙ ap (λ (es : List Extent). covered es n v o) (sym (slots-more ws 0 u u (omega arith))))
 
 -- the part of the marks that is an extent's comes back filled with ones
 pub marked-put : (e : Extent) (n v : ℕ) (ms ys : List ℕ) → e .physical / n ≡ v → e .physical % n + e .count ≤ n → n ≤ length ms
@@ -141,12 +141,12 @@ stored-at f (suc k) (x ∷ xs) zero h s = refl
 stored-at f (suc k) (x ∷ xs) (suc i) h s = stored-at (λ j. f (suc j)) k xs i (omega arith) (omega arith)
 
 pub marks-ranks : (ws : List ℕ) (u n v : ℕ) (ms rs : List ℕ) → n < length ms → Marks ws u n v ms → rs ≡ stored (sums ms) (n + 1) ms
-    → Ranks n (covered (slots ws 0 u) n v) rs
+    → Ranks n (covered (slotsFrom ws 0 u) n v) rs
 marks-ranks ws u n v ms rs l m e = record {
   long = omega (arith, ap length e, stored-length (sums ms) (n + 1) ms);
   rank = λ o h. ap (λ (xs : List ℕ). getD xs o 0) e ∙ stored-at (sums ms) (n + 1) ms o (omega arith) (omega arith)
-      ∙ sum-same o (λ j. getD ms j 0) (λ j. one (covered (slots ws 0 u) n v j)) (λ j s. m j (omega arith))
-      ∙ sym (count-sum o (covered (slots ws 0 u) n v));
+      ∙ sum-same o (λ j. getD ms j 0) (λ j. one (covered (slotsFrom ws 0 u) n v j)) (λ j s. m j (omega arith))
+      ∙ sym (count-sum o (covered (slotsFrom ws 0 u) n v));
 }
 
 -- ---- from ranks back to what is live

@@ -4,7 +4,7 @@ ghost use Prim.Native.Nat.{ℕ, _+_, _*_, _%_, _<_, _≤_};
 ghost use lib.ListN.{length, getD};
 ghost use Rattle.rules.specs.Counting.{most, count};
 ghost use Rattle.rules.specs.Blocks.{stride, fillWord, validWord};
-ghost use Rattle.rules.specs.Extents.{none, slot, slots};
+ghost use Rattle.rules.specs.Extents.{none, slot, slotsFrom};
 ghost use Rattle.rules.specs.Calls.{over};
 ghost use Rattle.words.specs.Store.{stored};
 ghost use Rattle.choosing.specs.Stale.{staleWord};
@@ -84,7 +84,7 @@ fn add_up(marks: &mut [u32], n: usize)
 pub fn ranks_of(ext: &[u32], used: usize, n: u32, v: u32) -> [u32; 257]
     requires { ⌜ (3 * used ≤ length (now ext)) × (1 ≤ n) × (n ≤ 256) ⌝ }
     requires { ⌜ ((i : ℕ) → i < used → slot (now ext) i .physical % n + slot (now ext) i .count ≤ n) ⌝ }
-    ensures { λ ranks. ⌜ Ranks n (covered (slots (now (ext .entry)) 0 used) n v) ranks ⌝ }
+    ensures { λ ranks. ⌜ Ranks n (covered (slotsFrom (now (ext .entry)) 0 used) n v) ranks ⌝ }
 {
     let mut ranks = [0u32; 257];
     mark_slots(&mut ranks, ext, used, n, v);

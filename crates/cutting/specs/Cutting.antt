@@ -4,7 +4,7 @@ use mathlib.Core.Path.{_≡_, sym, ap, ap₂, _∙_, subst}
 use mathlib.Core.List.{List, _++_}
 use native.Mathlib.Omega.{arith}
 use lib.ListN.{length, getD, take, drop}
-use Rattle.rules.specs.Extents.{end, slot, slots}
+use Rattle.rules.specs.Extents.{end, slot, slotsFrom}
 use Rattle.rules.specs.declared.Extent.{Extent}
 use Rattle.laws.specs.Cut.{cut}
 use Rattle.laws.specs.Slots.{slots-length}
@@ -17,14 +17,14 @@ use Rattle.map.specs.Clip.{clipRight, clipLeft, splitAt, blank, clip-right-leng
 -- l up to e can be cut out of the extents in u slots
 pub record Cuttable (ws : List ℕ) (u l e : ℕ) : Type 0 where
   pub held : Holds ws u
-  pub sound : Sound (slots ws 0 u)
+  pub sound : Sound (slotsFrom ws 0 u)
   pub range : l < e
-  pub room : 3 * length (cut l e (slots ws 0 u)) ≤ length ws
+  pub room : 3 * length (cut l e (slotsFrom ws 0 u)) ≤ length ws
 
 -- of them, `before` start before l and `after` end after e begins
-module _ (ws : List ℕ) (u l e before after : ℕ) (k : Cuttable ws u l e) (b : before ≡ startsBefore l (slots ws 0 u)) (t : after ≡ endsAfter e (slots ws 0 u)) where
+module _ (ws : List ℕ) (u l e before after : ℕ) (k : Cuttable ws u l e) (b : before ≡ startsBefore l (slotsFrom ws 0 u)) (t : after ≡ endsAfter e (slotsFrom ws 0 u)) where
   abbrev es : List Extent
-  es = slots ws 0 u
+  es = slotsFrom ws 0 u
 
   abbrev z : ℕ
   z = u - after
@@ -89,7 +89,7 @@ module _ (ws : List ℕ) (u l e before after : ℕ) (k : Cuttable ws u l e) (b :
     mid-holds : Holds mid u
     mid-holds = became-holds (length ws) (clipRight l before es) mid u g clipped (h .fits)
 
-    mid-slots : slots mid 0 u ≡ clipRight l before es
+    mid-slots : slotsFrom mid 0 u ≡ clipRight l before es
     mid-slots = became-slots (length ws) (clipRight l before es) mid u g clipped (h .fits)
 
     -- slot z is as it was
@@ -103,21 +103,21 @@ module _ (ws : List ℕ) (u l e before after : ℕ) (k : Cuttable ws u l e) (b :
       λ p. subst (λ (x : Extent). Piece x × (e < end x)) (same p) (sound-piece ws u s z p, sound-ends ws u s e z rest p),
     )
 
-    module _ (mid₂ : List ℕ) (g₂ : mid₂ ≡ padded (length mid) (clipLeft e z (slots mid 0 u))) where
-      both : length (clipLeft e z (slots mid 0 u)) ≡ u
-      both = clip-left-length e z (slots mid 0 u) ∙ slots-length mid 0 u
+    module _ (mid₂ : List ℕ) (g₂ : mid₂ ≡ padded (length mid) (clipLeft e z (slotsFrom mid 0 u))) where
+      both : length (clipLeft e z (slotsFrom mid 0 u)) ≡ u
+      both = clip-left-length e z (slotsFrom mid 0 u) ∙ slots-length mid 0 u
 
       pub close-ready : Holds mid₂ u × (before ≤ z) × (z ≤ u)
-      close-ready = (became-holds (length mid) (clipLeft e z (slots mid 0 u)) mid₂ u g₂ both (mid-holds .fits), a, omega arith)
+      close-ready = (became-holds (length mid) (clipLeft e z (slotsFrom mid 0 u)) mid₂ u g₂ both (mid-holds .fits), a, omega arith)
 
-      pub cut-done : (ws′ : List ℕ) → ws′ ≡ padded (length mid₂) (take before (slots mid₂ 0 u) ++ drop z (slots mid₂ 0 u))
+      pub cut-done : (ws′ : List ℕ) → ws′ ≡ padded (length mid₂) (take before (slotsFrom mid₂ 0 u) ++ drop z (slotsFrom mid₂ 0 u))
           → Becomes (length ws) (cut l e es) ws′ (before + after)
       cut-done ws′ g₃ =
           let words : length mid₂ ≡ length ws =
-          became-length (length mid) (clipLeft e z (slots mid 0 u)) mid₂ u g₂ both (mid-holds .fits)
+          became-length (length mid) (clipLeft e z (slotsFrom mid 0 u)) mid₂ u g₂ both (mid-holds .fits)
           ∙ became-length (length ws) (clipRight l before es) mid u g clipped (h .fits) in
-          let held : slots mid₂ 0 u ≡ clipLeft e z (clipRight l before es) =
-          became-slots (length mid) (clipLeft e z (slots mid 0 u)) mid₂ u g₂ both (mid-holds .fits) ∙ ap (clipLeft e z) mid-slots in
+          let held : slotsFrom mid₂ 0 u ≡ clipLeft e z (clipRight l before es) =
+          became-slots (length mid) (clipLeft e z (slotsFrom mid 0 u)) mid₂ u g₂ both (mid-holds .fits) ∙ ap (clipLeft e z) mid-slots in
           record {
             is =
                 g₃ ∙ ap₂ (λ (m : ℕ) (xs : List Extent). padded m (take before xs ++ drop z xs)) words held

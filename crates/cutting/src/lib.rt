@@ -3,7 +3,7 @@ ghost use mathlib.Core.Path.{_≡_};
 ghost use Prim.Native.Nat.{ℕ, _+_, _*_, _<_, _≤_};
 ghost use mathlib.Core.List.{_++_};
 ghost use lib.ListN.{length, take, drop};
-ghost use Rattle.rules.specs.Extents.{end, slot, slots};
+ghost use Rattle.rules.specs.Extents.{end, slot, slotsFrom};
 ghost use Rattle.laws.specs.Cut.{cut};
 ghost use Rattle.map.specs.Sound.{Piece};
 ghost use Rattle.map.specs.Padded.{padded, Holds, Becomes};
@@ -13,7 +13,7 @@ ghost use Rattle.cutting.specs.Cutting.{Cuttable};
 // The slots from a up to z go, and those from z on move down.
 fn close(ext: &mut [u32], used: usize, a: usize, z: usize)
     requires { ⌜ Holds (now ext) used × (a ≤ z) × (z ≤ used) ⌝ }
-    ensures { λ _. ⌜ now (ext .exit) ≡ padded (length (now (ext .entry))) (take a (slots (now (ext .entry)) 0 used) ++ drop z (slots (now (ext .entry)) 0 used)) ⌝ }
+    ensures { λ _. ⌜ now (ext .exit) ≡ padded (length (now (ext .entry))) (take a (slotsFrom (now (ext .entry)) 0 used) ++ drop z (slotsFrom (now (ext .entry)) 0 used)) ⌝ }
 {
     let at = 3 * a;
     let top = 3 * used;
@@ -23,7 +23,7 @@ fn close(ext: &mut [u32], used: usize, a: usize, z: usize)
 // Of a extents the last, which starts before l, ends there at the latest.
 fn clip_right(ext: &mut [u32], used: usize, a: usize, l: u32)
     requires { ⌜ Holds (now ext) used × (a ≤ used) × ((i : ℕ) → i + 1 ≡ a → slot (now ext) i .logical < l) ⌝ }
-    ensures { λ _. ⌜ now (ext .exit) ≡ padded (length (now (ext .entry))) (clipRight l a (slots (now (ext .entry)) 0 used)) ⌝ }
+    ensures { λ _. ⌜ now (ext .exit) ≡ padded (length (now (ext .entry))) (clipRight l a (slotsFrom (now (ext .entry)) 0 used)) ⌝ }
 {
     if a < 1 {
         return;
@@ -41,7 +41,7 @@ fn clip_right(ext: &mut [u32], used: usize, a: usize, l: u32)
 // The extent in slot z, where there is one, ends after e begins. It starts there at the earliest.
 fn clip_left(ext: &mut [u32], used: usize, z: usize, e: u32)
     requires { ⌜ Holds (now ext) used × (z < used → Piece (slot (now ext) z) × (e < end (slot (now ext) z))) ⌝ }
-    ensures { λ _. ⌜ now (ext .exit) ≡ padded (length (now (ext .entry))) (clipLeft e z (slots (now (ext .entry)) 0 used)) ⌝ }
+    ensures { λ _. ⌜ now (ext .exit) ≡ padded (length (now (ext .entry))) (clipLeft e z (slotsFrom (now (ext .entry)) 0 used)) ⌝ }
 {
     if used <= z {
         return;
@@ -59,7 +59,7 @@ fn clip_left(ext: &mut [u32], used: usize, z: usize, e: u32)
 // The extent in slot i, which starts before l and ends after e begins, is taken apart.
 fn split(ext: &mut [u32], used: usize, i: usize, l: u32, e: u32)
     requires { ⌜ Holds (now ext) used × (i < used) × (3 * used + 3 ≤ length (now ext)) × (slot (now ext) i .logical < l) × (l < e) × (e < end (slot (now ext) i)) × Piece (slot (now ext) i) ⌝ }
-    ensures { λ _. ⌜ now (ext .exit) ≡ padded (length (now (ext .entry))) (splitAt l e i (slots (now (ext .entry)) 0 used)) ⌝ }
+    ensures { λ _. ⌜ now (ext .exit) ≡ padded (length (now (ext .entry))) (splitAt l e i (slotsFrom (now (ext .entry)) 0 used)) ⌝ }
 {
     let at = 3 * i;
     let q = ext[at];
@@ -72,7 +72,7 @@ fn split(ext: &mut [u32], used: usize, i: usize, l: u32, e: u32)
 // The extents without the logical pages from l up to e. The slots then in use are returned.
 pub fn cut_out(ext: &mut [u32], used: usize, l: u32, e: u32) -> usize
     requires { ⌜ Cuttable (now ext) used l e ⌝ }
-    ensures { λ r. ⌜ Becomes (length (now (ext .entry))) (cut l e (slots (now (ext .entry)) 0 used)) (now (ext .exit)) r ⌝ }
+    ensures { λ r. ⌜ Becomes (length (now (ext .entry))) (cut l e (slotsFrom (now (ext .entry)) 0 used)) (now (ext .exit)) r ⌝ }
 {
     let sides = map::around(ext, used, l, e);
     let a = sides.before;

@@ -8,7 +8,7 @@ use lib.Seq.{sets, length-sets}
 use Rattle.rules.specs.Counting.{tabulate}
 use Rattle.rules.specs.Device.{Device, lines, stale, free}
 use Rattle.rules.specs.Placement.{targets, puts, places}
-use Rattle.rules.specs.Number.{withTable, numbered, written, trimmed}
+use Rattle.rules.specs.Request.{withTable, numbered, written, trimmed}
 use Rattle.rules.specs.Reclaim.{victim, reclaimed}
 use Rattle.laws.specs.Cells.{length-tabulate, getD-tabulate, sets-tells, replicate-at}
 use Rattle.laws.specs.Device.{Sound}

@@ -12,7 +12,7 @@ use lib.ListN.{length, getD, replicate}
 use Rattle.rules.specs.Lent.{Lent}
 use Rattle.rules.specs.Device.{Device, lines, deviceOf}
 use Rattle.rules.specs.Answers.{Outcome}
-use Rattle.rules.specs.Calls.{Call, plain, encoded, call}
+use Rattle.rules.specs.Calls.{Call, plainCall, encoded, call}
 use Rattle.demands.specs.Flash.{erased, hole, contents}
 use Rattle.demands.specs.Host.{Ask, Op, ops, marking, reads, World, step, run}
 
@@ -26,7 +26,7 @@ history (c ∷ cs) s = let o = call c s in o ∷ history cs (o .after)
 -- the same on the plain table
 unfoldable pub plainHistory : List Call → Device → List (Outcome Device)
 plainHistory [] d = []
-plainHistory (c ∷ cs) d = let o = plain c d in o ∷ plainHistory cs (o .after)
+plainHistory (c ∷ cs) d = let o = plainCall c d in o ∷ plainHistory cs (o .after)
 
 -- ---- what the host does in a history, in order
 

@@ -9,7 +9,7 @@ use lib.ListN.{getD}
 use Rattle.rules.specs.Lent.{Lent}
 use Rattle.rules.specs.Device.{Device, lines, deviceOf, headOf, wordsOf}
 use Rattle.rules.specs.Answers.{Outcome}
-use Rattle.rules.specs.Calls.{Call, refusal, refused, accepted, plain, encoded}
+use Rattle.rules.specs.Calls.{Call, refusal, refused, accepted, plainCall, encoded}
 use Rattle.laws.specs.Sane.{Good}
 use Rattle.laws.specs.States.{words-device}
 use Rattle.laws.specs.Calls.{call-plain}
@@ -22,7 +22,7 @@ use Rattle.demands.specs.Traces.{trace-allowed, in-order, not-twice}
 
 -- ---- the answers
 
-plain-good : (c : Call) (d : Device) → Good d → Good (plain c d .after)
+plain-good : (c : Call) (d : Device) → Good d → Good (plainCall c d .after)
 unfolding accepted refused
 plain-good c d g =
     by-cases (ℕ-discrete (refusal c d) 0)
@@ -34,7 +34,7 @@ unfolding history plainHistory encoded
 as-plain [] d g = refl
 as-plain (c ∷ cs) d g =
     ap (λ (o : Outcome Lent). o ∷ history cs (o .after)) (call-plain c d g)
-    ∙ ap (λ (os : List (Outcome Lent)). encoded (plain c d) ∷ os) (as-plain cs (plain c d .after) (plain-good c d g))
+    ∙ ap (λ (os : List (Outcome Lent)). encoded (plainCall c d) ∷ os) (as-plain cs (plainCall c d .after) (plain-good c d g))
 
 -- ---- the pages
 

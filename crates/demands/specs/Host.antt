@@ -8,7 +8,7 @@ use lib.Dec.{eqb}
 use lib.ListN.{length, getD, set, take, replicate}
 use lib.Seq.{sets}
 use Rattle.rules.specs.Counting.{tabulate}
-use Rattle.rules.specs.Extents.{none, slots}
+use Rattle.rules.specs.Extents.{none, slotsFrom}
 use Rattle.rules.specs.Lent.{Lent, fillOf}
 use Rattle.rules.specs.Answers.{Outcome}
 use Rattle.rules.specs.Calls.{Call, call}
@@ -44,7 +44,7 @@ copies to (p ∷ ps) = Op.copy p to ∷ copies (suc to) ps
 -- what the host must do by an accepted answer alone, and by the head that the request was given: the old reserve takes the copies, the new reserve is
 -- then erased
 unfoldable pub toDo : Call → List ℕ → Head → Outcome Lent → List Op
-toDo (Call.write k l n out) xs h o = programs l xs (slots (o .out) 0 (getD (o .counts) 0 0))
+toDo (Call.write k l n out) xs h o = programs l xs (slotsFrom (o .out) 0 (getD (o .counts) 0 0))
 toDo (Call.trim k l n) xs h o = []
 toDo (Call.read l n out) xs h o = []
 toDo (Call.reclaim out) xs h o = copies (h .reserve * h .pages) (take (getD (o .counts) 0 0) (o .out)) ++ Op.erase (o .after .head .reserve) ∷ []

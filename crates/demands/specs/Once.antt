@@ -10,7 +10,7 @@ use lib.ListN.{length}
 use Rattle.rules.specs.Counting.{count}
 use Rattle.rules.specs.Lent.{Lent, validOf}
 use Rattle.rules.specs.Device.{Device, at, mapped, deviceOf}
-use Rattle.rules.specs.Number.{usedUp}
+use Rattle.rules.specs.Request.{usedUp}
 use Rattle.rules.specs.Calls.{Call, buffer, call}
 use Rattle.rules.specs.declared.Refusal.{Refusal}
 use Rattle.demands.specs.Host.{Ask, World, step, run}

@@ -17,7 +17,7 @@ use Rattle.rules.specs.Device.{Device, lines, free, live, stale, extents, devic
 use Rattle.rules.specs.Placement.{targets, puts, pieces}
 use Rattle.rules.specs.Reclaim.{victim, sources, reclaimedAt, reclaimed}
 use Rattle.rules.specs.Read.{found}
-use Rattle.rules.specs.Number.{applied, judged, withTable, numbered, written, trimmed}
+use Rattle.rules.specs.Request.{applied, judged, withTable, numbered, written, trimmed}
 use Rattle.rules.specs.Answers.{Outcome, number, refuse}
 use Rattle.rules.specs.Calls.{Call, outside, tooMany, writeRefusal, trimRefusal, readRefusal, reclaimRefusal, refusal, counts, leaves, lists, buffer, over, zeros, refused, verdict, acceptedOn, call, freshDevice, sizesOnly, fresh}
 use Rattle.rules.specs.declared.Refusal.{Refusal}

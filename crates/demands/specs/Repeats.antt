@@ -15,7 +15,7 @@ use Rattle.rules.specs.Sound.{sound}
 use Rattle.rules.specs.Device.{Device, blocks, lines, at, mapped, valid, deviceOf, headOf, wordsOf}
 use Rattle.rules.specs.Placement.{targets, puts, placesAt}
 use Rattle.rules.specs.Reclaim.{reclaimedAt, reclaimed}
-use Rattle.rules.specs.Number.{usedUp, withTable, numbered, written, trimmed}
+use Rattle.rules.specs.Request.{usedUp, withTable, numbered, written, trimmed}
 use Rattle.rules.specs.Answers.{number, refuse}
 use Rattle.rules.specs.Calls.{Call, refusal, leaves, buffer, call}
 use Rattle.rules.specs.declared.Head.{Head}

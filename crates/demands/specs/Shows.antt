@@ -13,7 +13,7 @@ use lib.Seq.{sets}
 use Rattle.rules.specs.Extents.{none}
 use Rattle.rules.specs.Device.{Device, blocks, lines, at, fill, valid}
 use Rattle.rules.specs.Placement.{putAt, putsAt, placesAt}
-use Rattle.rules.specs.Number.{withTable, trimmed}
+use Rattle.rules.specs.Request.{withTable, trimmed}
 use Rattle.rules.specs.Reclaim.{sources, moved, reclaimedAt}
 use Rattle.demands.specs.Flash.{Cell, erased, value, Seen, hole, cell, see, contents}
 use Rattle.laws.specs.Cells.{block-le, far, copies, copies-copied, Blanks, blanks}

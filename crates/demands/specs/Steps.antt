@@ -9,7 +9,7 @@ use Rattle.rules.specs.Lent.{Lent}
 use Rattle.rules.specs.Device.{Device, deviceOf, headOf, wordsOf}
 use Rattle.rules.specs.Placement.{targets, puts}
 use Rattle.rules.specs.Reclaim.{reclaimedAt, reclaimed}
-use Rattle.rules.specs.Number.{withTable, numbered, written, trimmed}
+use Rattle.rules.specs.Request.{withTable, numbered, written, trimmed}
 use Rattle.rules.specs.Answers.{Outcome}
 use Rattle.rules.specs.Calls.{Call, refusal, leaves, call}
 use Rattle.rules.specs.declared.Head.{Head}

@@ -7,7 +7,7 @@ use mathlib.Core.Logic.{inl}
 use native.Mathlib.Omega.{arith}
 use lib.ListN.{length, getD, take, drop, replicate}
 use Rattle.rules.specs.Counting.{sum, count, all, first, most, picks, tabulate, among}
-use Rattle.rules.specs.Extents.{lookup, joinable, join, runs, slots, flat}
+use Rattle.rules.specs.Extents.{lookup, joinable, join, runs, slotsFrom, flat}
 use Rattle.rules.specs.Blocks.{stride, records}
 use Rattle.rules.specs.Lent.{Lent, lent}
 use Rattle.rules.specs.Shape.{sizes, lengths, shape, shaped}
@@ -15,8 +15,8 @@ use Rattle.rules.specs.Sound.{rule1, rule2, rule3, rule4, mappedIn, rule5, rule
 use Rattle.rules.specs.Device.{mapped, named, valid, staleIn, stale, live, room, free, extents, tableOf, deviceOf, headOf, wordsOf}
 use Rattle.rules.specs.Placement.{putAt, putsAt, placesAt, target, targets, puts, places, pieces}
 use Rattle.rules.specs.Reclaim.{victim, sources, goes, copied, moved, reclaimedAt, reclaimed}
-use Rattle.rules.specs.Read.{hole, holes, found}
-use Rattle.rules.specs.Number.{applied, judged, withTable, numbered, written, trimmed}
+use Rattle.rules.specs.Read.{withHole, withHoles, found}
+use Rattle.rules.specs.Request.{applied, judged, withTable, numbered, written, trimmed}
 use Rattle.rules.specs.Answers.{refuse}
 use Rattle.rules.specs.Calls.{Call, outside, tooMany, writeRefusal, trimRefusal, readRefusal, reclaimRefusal, refusal, counts, leaves, lists, over, refused, verdict, acceptedOn, call, freshDevice, sizesOnly, fresh}
 use Rattle.laws.specs.Cells.{replicate-at}
@@ -64,7 +64,7 @@ small = started 3 1 1 1 .state
 abbrev refusals : List ℕ
 refusals =
     call Call.report (lent (sizesOnly 0 0 0 0) [] [] []) .refusal
-    ∷ call Call.report (lent (small .head) (small .extents) (small .blocks) (0 ∷ 0 ∷ 0 ∷ [])) .refusal
+    ∷ call Call.report (lent (small .head) (small .extentWords) (small .blockWords) (0 ∷ 0 ∷ 0 ∷ [])) .refusal
     ∷ call (Call.write 1 0 0 []) small .refusal
     ∷ call (Call.write 0 0 1 []) small .refusal
     ∷ call (Call.write 3 0 1 []) (run (write 1 0 1 [] ∷ write 2 0 1 [] ∷ []) (started 3 1 1 1) .state) .refusal
@@ -95,11 +95,11 @@ pub record Met : Type 0 where
 
 pub met : Met
 unfolding sum count all first most picks tabulate among
-    lookup joinable join runs slots flat records sizes lengths shape shaped
+    lookup joinable join runs slotsFrom flat records sizes lengths shape shaped
     rule1 rule2 rule3 rule4 mappedIn rule5 rule6 sound
     mapped named valid staleIn stale live room free extents tableOf deviceOf headOf wordsOf
     putAt putsAt placesAt target targets puts places pieces
-    victim sources goes copied moved reclaimedAt reclaimed hole holes found
+    victim sources goes copied moved reclaimedAt reclaimed withHole withHoles found
     applied judged withTable numbered written trimmed refuse
     outside tooMany writeRefusal trimRefusal readRefusal reclaimRefusal refusal counts leaves lists over refused
     verdict acceptedOn call freshDevice sizesOnly fresh

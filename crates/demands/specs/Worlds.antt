@@ -15,10 +15,10 @@ use Rattle.rules.specs.Extents.{none, flat}
 use Rattle.rules.specs.Lent.{Lent}
 use Rattle.rules.specs.Device.{Device, lines, at, valid, headOf, wordsOf}
 use Rattle.rules.specs.Placement.{targets, puts, places, pieces}
-use Rattle.rules.specs.Number.{withTable, numbered, written, trimmed}
+use Rattle.rules.specs.Request.{withTable, numbered, written, trimmed}
 use Rattle.rules.specs.Reclaim.{victim, sources, reclaimedAt, reclaimed}
 use Rattle.rules.specs.Answers.{Outcome}
-use Rattle.rules.specs.Calls.{Call, refusal, counts, leaves, lists, over, refused, accepted, plain, encoded, call}
+use Rattle.rules.specs.Calls.{Call, refusal, counts, leaves, lists, over, refused, accepted, plainCall, encoded, call}
 use Rattle.rules.specs.declared.Head.{Head}
 use Rattle.laws.specs.Cells.{length-tabulate, tabulate-same}
 use Rattle.laws.specs.Slots.{slots-flat}
@@ -37,12 +37,12 @@ use Rattle.demands.specs.Agrees.{Agrees, padded, cells, agrees-write, ag
 
 -- ---- the outcome of an accepted call, and of a refused one
 
-pub plain-accepted : (c : Call) (d : Device) → refusal c d ≡ 0 → plain c d ≡ accepted c d
-unfolding plain
+pub plain-accepted : (c : Call) (d : Device) → refusal c d ≡ 0 → plainCall c d ≡ accepted c d
+unfolding plainCall
 plain-accepted c d e = rw (eq-eqb (refusal c d) 0 e)
 
-pub plain-refused : (c : Call) (d : Device) → (refusal c d ≡ 0 → ⊥) → plain c d ≡ refused (refusal c d) c d
-unfolding plain
+pub plain-refused : (c : Call) (d : Device) → (refusal c d ≡ 0 → ⊥) → plainCall c d ≡ refused (refusal c d) c d
+unfolding plainCall
 plain-refused c d e = rw (ne-eqb (refusal c d) 0 e)
 
 -- ---- what the host then does

@@ -38,18 +38,18 @@ module _ (out : List ℕ) (s : Lent) (z : Ready (Call.reclaim out) s) where
   same : extents (deviceOf s) ≡ inUse s
   same = extents-in-use s (z .shape) (z .sane)
 
-  pub reclaim-records : (stride * s .head .blocks ≤ length (s .blocks)) × ((b : ℕ) → b < s .head .blocks → validWord (s .blocks) b ≤ fillWord (s .blocks) b)
+  pub reclaim-records : (stride * s .head .blocks ≤ length (s .blockWords)) × ((b : ℕ) → b < s .head .blocks → validWord (s .blockWords) b ≤ fillWord (s .blockWords) b)
   reclaim-records = sane-records s (z .shape) (z .sane)
 
-  pub reclaim-walkable : Walkable (s .head) (s .extents)
+  pub reclaim-walkable : Walkable (s .head) (s .extentWords)
   reclaim-walkable = sane-walkable s (z .shape) (z .sane)
 
-  pub reclaim-ends : Ends (s .extents) (s .head .used)
+  pub reclaim-ends : Ends (s .extentWords) (s .head .used)
   reclaim-ends =
-      rows-ends (s .head .pages) (s .head .logical) (s .extents) (s .head .used)
+      rows-ends (s .head .pages) (s .head .logical) (s .extentWords) (s .head .used)
       (omega (arith, lines-pages (z .shape .sizes), pages-high (z .shape .sizes))) (z .sane .rows)
 
-  module _ (v : ℕ) (f : v ≡ most (s .head .blocks) (staleWord (s .blocks))) where
+  module _ (v : ℕ) (f : v ≡ most (s .head .blocks) (staleWord (s .blockWords))) where
     is : v ≡ victim (deviceOf s)
     is = f ∙ found-victim s (z .shape) (z .sane)
 
@@ -63,7 +63,7 @@ module _ (out : List ℕ) (s : Lent) (z : Ready (Call.reclaim out) s) where
     unfolding deviceOf
     other e = chosen .other (sym is ∙ e)
 
-    pub reclaim-moves : (stride * s .head .reserve + 1 < length (s .blocks)) × (stride * v + 1 < length (s .blocks))
+    pub reclaim-moves : (stride * s .head .reserve + 1 < length (s .blockWords)) × (stride * v + 1 < length (s .blockWords))
     reclaim-moves = (omega (arith, z .sane .kept, z .shape .blocks), omega (arith, inside, device-blocks s, z .shape .blocks))
 
     module _ (ranks : List ℕ) (r : Ranks (s .head .pages) (covered (inUse s) (s .head .pages) v) ranks) where
@@ -96,7 +96,7 @@ module _ (out : List ℕ) (s : Lent) (z : Ready (Call.reclaim out) s) where
         reclaim-copied = rw reclaim-copies (sources-copied (deviceOf s) sound v inside other out out′ few listed)
 
   -- the map afterwards
-  module _ (v : ℕ) (f : v ≡ most (s .head .blocks) (staleWord (s .blocks))) where
+  module _ (v : ℕ) (f : v ≡ most (s .head .blocks) (staleWord (s .blockWords))) where
     new-extents : remapped (s .head .pages) v (s .head .reserve) (inUse s) ≡ extents (reclaimedAt v (deviceOf s))
     unfolding deviceOf
     new-extents = ap (remapped (s .head .pages) v (s .head .reserve)) (sym same) ∙ remapped-extents (deviceOf s) sound v (inside v f) (other v f)
@@ -118,21 +118,21 @@ module _ (out : List ℕ) (s : Lent) (z : Ready (Call.reclaim out) s) where
           z .shape .sizes .m-high,
         )
 
-    ext-is : (ext : List ℕ) → ext ≡ laid (remapped (s .head .pages) v (s .head .reserve) (inUse s)) (length (s .extents)) → ext ≡ wordsOf (reclaimedAt v (deviceOf s)) .extents
+    ext-is : (ext : List ℕ) → ext ≡ laid (remapped (s .head .pages) v (s .head .reserve) (inUse s)) (length (s .extentWords)) → ext ≡ wordsOf (reclaimedAt v (deviceOf s)) .extentWords
     ext-is ext p =
         p
-        ∙ ap (λ (es : List Extent). laid es (length (s .extents))) new-extents
+        ∙ ap (λ (es : List Extent). laid es (length (s .extentWords))) new-extents
         ∙ ap (laid (extents (reclaimedAt v (deviceOf s)))) (z .shape .extents ∙ ap (λ (m : ℕ). 3 * m) (sym slots-same))
         ∙ laid-words (reclaimedAt v (deviceOf s))
 
     -- the block records afterwards
-    given : s .blocks ≡ records (deviceOf s .fills) 0 (valid (deviceOf s))
+    given : s .blockWords ≡ records (deviceOf s .fills) 0 (valid (deviceOf s))
     unfolding wordsOf
-    given = ap (λ (t : Lent). t .blocks) (sym (device-words s (z .shape) (z .sane)))
+    given = ap (λ (t : Lent). t .blockWords) (sym (device-words s (z .shape) (z .sane)))
 
-    blk-is : (blk : List ℕ) → blk ≡ emptied (s .head .reserve) v (s .blocks) → blk ≡ records (reclaimedAt v (deviceOf s) .fills) 0 (valid (reclaimedAt v (deviceOf s)))
+    blk-is : (blk : List ℕ) → blk ≡ emptied (s .head .reserve) v (s .blockWords) → blk ≡ records (reclaimedAt v (deviceOf s) .fills) 0 (valid (reclaimedAt v (deviceOf s)))
     unfolding deviceOf
-    blk-is blk p = p ∙ emptied-records (deviceOf s) sound v (inside v f) (other v f) (s .blocks) given
+    blk-is blk p = p ∙ emptied-records (deviceOf s) sound v (inside v f) (other v f) (s .blockWords) given
 
     module _ (ranks : List ℕ) (r : Ranks (s .head .pages) (covered (inUse s) (s .head .pages) v) ranks)
         (out′ : List ℕ) (g : out′ ≡ over (livePages (s .head .pages) v (rises ranks)) out) (k : ℕ) (e : k ≡ getD ranks (s .head .pages) 0) where
@@ -148,8 +148,8 @@ module _ (out : List ℕ) (s : Lent) (z : Ready (Call.reclaim out) s) where
           ∙ moved-labels (deviceOf s) sound v (inside v f) (other v f) out out′ (few v f ranks r) (listed v f ranks r out′ g)
 
       module _ (w : ℕ) (ext blk spare : List ℕ) (a : w ≡ length (remapped (s .head .pages) v (s .head .reserve) (inUse s)))
-          (x : ext ≡ laid (remapped (s .head .pages) v (s .head .reserve) (inUse s)) (length (s .extents)))
-          (b : blk ≡ emptied (s .head .reserve) v (s .blocks))
+          (x : ext ≡ laid (remapped (s .head .pages) v (s .head .reserve) (inUse s)) (length (s .extentWords)))
+          (b : blk ≡ emptied (s .head .reserve) v (s .blockWords))
           (l : spare ≡ swept none (s .head .pages) (s .head .reserve) v (take k out′) (s .spare)) where
         -- the head afterwards
         abbrev head : Head

@@ -11,7 +11,7 @@ use Rattle.rules.specs.Counting.{count}
 use Rattle.rules.specs.Extents.{none, runs}
 use Rattle.rules.specs.Device.{Device, blocks, lines, at, room, free, valid, mapped}
 use Rattle.rules.specs.Placement.{putAt, putsAt, placesAt, target, targets, puts, places, pieces}
-use Rattle.rules.specs.Number.{withTable, trimmed}
+use Rattle.rules.specs.Request.{withTable, trimmed}
 use Rattle.laws.specs.Sums.{count-none}
 use Rattle.laws.specs.Device.{Sound, none-block}
 use Rattle.laws.specs.Balance

@@ -7,7 +7,7 @@ use Rattle.rules.specs.Shape.{shaped}
 use Rattle.rules.specs.Sound.{sound}
 use Rattle.rules.specs.Device.{Device, deviceOf, wordsOf}
 use Rattle.rules.specs.Answers.{number, refuse}
-use Rattle.rules.specs.Calls.{Call, refusal, counts, leaves, lists, buffer, over, refused, accepted, plain, encoded, verdict, acceptedOn, call}
+use Rattle.rules.specs.Calls.{Call, refusal, counts, leaves, lists, buffer, over, refused, accepted, plainCall, encoded, verdict, acceptedOn, call}
 use Rattle.rules.specs.declared.Refusal.{Refusal}
 use lib.Dec.{eqb}
 use Rattle.laws.specs.Bools.{cases}
@@ -28,15 +28,15 @@ module _ (c : Call) (d : Device) (g : Good d) where
   unfolding refused encoded
   refused-words r = refl
 
-  pub call-plain : call c (wordsOf d) ≡ encoded (plain c d)
-  unfolding call plain
+  pub call-plain : call c (wordsOf d) ≡ encoded (plainCall c d)
+  unfolding call plainCall
   call-plain =
       rw verdict-words (cases (eqb (refusal c d) 0)
       (λ e. rw e accepted-words)
       (λ e. rw e (refused-words (refusal c d))))
 
 -- a call on a sound state is the call on its device
-pub call-sound : (c : Call) (s : Lent) → shaped s ≡ true → sound s ≡ true → call c s ≡ encoded (plain c (deviceOf s))
+pub call-sound : (c : Call) (s : Lent) → shaped s ≡ true → sound s ≡ true → call c s ≡ encoded (plainCall c (deviceOf s))
 call-sound c s h e =
     let p = sound-iff s h .0 e in
     ap (call c) (sym (p .1)) ∙ call-plain c (deviceOf s) (p .0)

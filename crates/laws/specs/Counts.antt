@@ -11,7 +11,7 @@ use lib.Dec.{ltb}
 use lib.ListN.{length, getD, replicate, length-append}
 use lib.Seq.{sets}
 use Rattle.rules.specs.Counting.{one}
-use Rattle.rules.specs.Extents.{none, extent, end, lookup, joinable, join, runs, slot, slots}
+use Rattle.rules.specs.Extents.{none, extent, end, lookup, joinable, join, runs, slot, slotsFrom}
 use Rattle.rules.specs.declared.Extent.{Extent}
 use Rattle.laws.specs.Bools.{cases, never}
 use Rattle.laws.specs.Sums.{one-le}
@@ -47,22 +47,22 @@ tally-append t [] ys = omega arith
 tally-append t (x ∷ xs) ys = omega (arith, tally-append t xs ys)
 
 -- a walk over the slots: nothing at first, and one more or none at each slot
-pub tally-start : (t : Extent → Bool) (ws : List ℕ) → tally t (slots ws 0 0) ≡ 0
-unfolding tally slots
+pub tally-start : (t : Extent → Bool) (ws : List ℕ) → tally t (slotsFrom ws 0 0) ≡ 0
+unfolding tally slotsFrom
 tally-start t ws = refl
 
-pub tally-more : (t : Extent → Bool) (ws : List ℕ) (u : ℕ) → tally t (slots ws 0 (u + 1)) ≡ tally t (slots ws 0 u) + one (t (slot ws u))
+pub tally-more : (t : Extent → Bool) (ws : List ℕ) (u : ℕ) → tally t (slotsFrom ws 0 (u + 1)) ≡ tally t (slotsFrom ws 0 u) + one (t (slot ws u))
 unfolding tally
 tally-more t ws u =
-    ap (tally t) (slots-more ws 0 u u (omega arith)) ∙ tally-append t (slots ws 0 u) (slot ws u ∷ []) ∙ omega arith
+    ap (tally t) (slots-more ws 0 u u (omega arith)) ∙ tally-append t (slotsFrom ws 0 u) (slot ws u ∷ []) ∙ omega arith
 
-pub starts-more : (a : ℕ) (ws : List ℕ) (u : ℕ) → startsBefore a (slots ws 0 (u + 1)) ≡ startsBefore a (slots ws 0 u) + one (ltb (slot ws u .logical) a)
+pub starts-more : (a : ℕ) (ws : List ℕ) (u : ℕ) → startsBefore a (slotsFrom ws 0 (u + 1)) ≡ startsBefore a (slotsFrom ws 0 u) + one (ltb (slot ws u .logical) a)
 starts-more a = tally-more (λ e. ltb (e .logical) a)
 
-pub ends-more : (b : ℕ) (ws : List ℕ) (u : ℕ) → endsAfter b (slots ws 0 (u + 1)) ≡ endsAfter b (slots ws 0 u) + one (ltb b (end (slot ws u)))
+pub ends-more : (b : ℕ) (ws : List ℕ) (u : ℕ) → endsAfter b (slotsFrom ws 0 (u + 1)) ≡ endsAfter b (slotsFrom ws 0 u) + one (ltb b (end (slot ws u)))
 ends-more b = tally-more (λ e. ltb b (end e))
 
-pub left-more : (n : ℕ) (f : Extent) (ws : List ℕ) (u : ℕ) → leftJoin n f (slots ws 0 (u + 1)) ≡ leftJoin n f (slots ws 0 u) + one (joinable n (slot ws u) f)
+pub left-more : (n : ℕ) (f : Extent) (ws : List ℕ) (u : ℕ) → leftJoin n f (slotsFrom ws 0 (u + 1)) ≡ leftJoin n f (slotsFrom ws 0 u) + one (joinable n (slot ws u) f)
 left-more n f = tally-more (λ e. joinable n e f)
 
 pub tally-le : (t : Extent → Bool) (es : List Extent) → tally t es ≤ length es

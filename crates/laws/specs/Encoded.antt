@@ -11,7 +11,7 @@ use lib.ListN.{length, length-map}
 use Rattle.rules.specs.Extents.{none, extent, runs}
 use Rattle.rules.specs.Device.{Device, blocks, lines, at, named, stale, extents}
 use Rattle.rules.specs.Placement.{putsAt, placesAt}
-use Rattle.rules.specs.Number.{withTable, trimmed}
+use Rattle.rules.specs.Request.{withTable, trimmed}
 use Rattle.rules.specs.Reclaim.{victim, goes, reclaimedAt, reclaimed}
 use Rattle.laws.specs.Cells.{block-le}
 use Rattle.laws.specs.Runs.{join-length, runs-hole, runs-page, runs-rows, runs-lookup, runs-length}

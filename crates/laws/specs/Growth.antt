@@ -11,7 +11,7 @@ use native.Mathlib.Nat.{suc-mul, mul-mod-left}
 use Rattle.rules.specs.Extents.{none, extent, runs}
 use Rattle.rules.specs.Device.{Device, blocks, lines, at, fill, free, extents}
 use Rattle.rules.specs.Placement.{putAt, putsAt, placesAt, target, targets, puts, places, pieces}
-use Rattle.rules.specs.Number.{withTable, trimmed}
+use Rattle.rules.specs.Request.{withTable, trimmed}
 use Rattle.laws.specs.Counts.{startsBefore, endsAfter, leftJoin, trim-count, write-count, cut-bound, place-bound}
 use Rattle.laws.specs.Device.{Sound, same-block, same-offset, page-lt, offset-lt}
 use Rattle.laws.specs.Placed.{Open, Opens, put-pages, put-fill, put-fill-other, put-one, puts-table, puts-pages, length-places, places-lt, places-small, length-targets, targets-open, puts-all}

@@ -14,7 +14,7 @@ use Rattle.rules.specs.Shape.{shaped}
 use Rattle.rules.specs.Sound.{sound}
 use Rattle.rules.specs.Device.{Device, blocks, lines, free, live, stale, extents, deviceOf, wordsOf}
 use Rattle.rules.specs.Placement.{targets, puts, pieces}
-use Rattle.rules.specs.Number.{applied, judged, withTable, numbered, written, trimmed}
+use Rattle.rules.specs.Request.{applied, judged, withTable, numbered, written, trimmed}
 use Rattle.rules.specs.Reclaim.{victim, sources, reclaimed}
 use Rattle.rules.specs.Read.{found}
 use Rattle.rules.specs.Answers.{Outcome, refuse}

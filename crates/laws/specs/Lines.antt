@@ -13,7 +13,7 @@ use Rattle.rules.specs.Counting.{count}
 use Rattle.rules.specs.Extents.{none}
 use Rattle.rules.specs.Device.{Device, blocks, lines, at, label, room, mapped, live, stale, free}
 use Rattle.rules.specs.Placement.{puts}
-use Rattle.rules.specs.Number.{withTable, numbered, written, trimmed}
+use Rattle.rules.specs.Request.{withTable, numbered, written, trimmed}
 use Rattle.laws.specs.Cells.{sets-in, sets-other, replicate-at, count-wiped}
 use Rattle.laws.specs.Device.{Sound}
 use Rattle.laws.specs.Balance.{balance}

@@ -6,7 +6,7 @@ use mathlib.Core.List.{List, _∷_}
 use mathlib.Core.Logic.{by-cases}
 use native.Mathlib.Omega.{arith}
 use native.Mathlib.Decide.{decLt, ℕ-discrete}
-use Rattle.rules.specs.Extents.{none, end, lookup, joinable, slot, slots}
+use Rattle.rules.specs.Extents.{none, end, lookup, joinable, slot, slotsFrom}
 use Rattle.laws.specs.Rows.{Row, Rows, rows-le, lookup-before, lookup-in, lookup-after}
 use Rattle.laws.specs.Runs.{joinable-false, joinable-first}
 use Rattle.laws.specs.Norm.{Fits}
@@ -25,8 +25,8 @@ module _ (n hi : ℕ) (ws : List ℕ) where
   ranked-from : (u : ℕ) → Ranked n hi ws u → (i m lo q : ℕ) → i + m ≡ u → lo ≤ hi
       → (i < u → lo ≤ slot ws i .logical)
       → (i < u → slot ws i .logical ≡ lo → slot ws i .physical ≡ q → slot ws i .physical % n ≡ 0)
-      → Rows n lo q hi (slots ws i m)
-  unfolding slots
+      → Rows n lo q hi (slotsFrom ws i m)
+  unfolding slotsFrom
   ranked-from u r i zero lo q e h above apart = h
   ranked-from u r i (suc m) lo q e h above apart = (
     record {
@@ -41,27 +41,27 @@ module _ (n hi : ℕ) (ws : List ℕ) where
         (λ t. joinable-false n (slot ws i) (slot ws (i + 1)) (r .inside i (omega arith)) (r .apart i (i + 1) (omega arith) t)),
   )
 
-  pub ranked-rows : (u : ℕ) → Ranked n hi ws u → Rows n 0 none hi (slots ws 0 u)
+  pub ranked-rows : (u : ℕ) → Ranked n hi ws u → Rows n 0 none hi (slotsFrom ws 0 u)
   ranked-rows u r =
       ranked-from u r 0 u 0 none (omega arith) (omega arith) (λ t. omega arith)
       (λ t a b. absurd (omega (arith, r .small 0 t, r .some 0 t)))
 
   -- each slot, and each with the next
-  pub rows-slot : (m i lo q : ℕ) → Rows n lo q hi (slots ws i m) → (j k : ℕ) → j < m → k ≡ i + j → Fits n lo (slot ws k) × (end (slot ws k) ≤ hi)
-  unfolding slots
+  pub rows-slot : (m i lo q : ℕ) → Rows n lo q hi (slotsFrom ws i m) → (j k : ℕ) → j < m → k ≡ i + j → Fits n lo (slot ws k) × (end (slot ws k) ≤ hi)
+  unfolding slotsFrom
   rows-slot zero i lo q h j k s e = absurd (omega arith)
   rows-slot (suc m) i lo q h zero k s e =
       let at : k ≡ i = omega arith in
       let r = h .0 in
-      rw at (record { above = r .above; some = r .some; inside = r .inside; small = r .small }, rows-le n hi (slots ws (i + 1) m) _ _ (h .1))
+      rw at (record { above = r .above; some = r .some; inside = r .inside; small = r .small }, rows-le n hi (slotsFrom ws (i + 1) m) _ _ (h .1))
   rows-slot (suc m) i lo q h (suc j) k s e =
       let r = rows-slot m (i + 1) _ _ (h .1) j k (omega arith) (omega arith) in
       let f = r .0 in
       (record { above = omega (arith, h .0 .above); some = f .some; inside = f .inside; small = f .small }, r .1)
 
-  pub rows-next : (m i lo q : ℕ) → Rows n lo q hi (slots ws i m) → (j a b : ℕ) → suc j < m → a ≡ i + j → b ≡ suc a
+  pub rows-next : (m i lo q : ℕ) → Rows n lo q hi (slotsFrom ws i m) → (j a b : ℕ) → suc j < m → a ≡ i + j → b ≡ suc a
       → Row n (end (slot ws a)) (slot ws a .physical + slot ws a .count) (slot ws b)
-  unfolding slots
+  unfolding slotsFrom
   rows-next zero i lo q h j a b s e f = absurd (omega arith)
   rows-next (suc zero) i lo q h j a b s e f = absurd (omega arith)
   rows-next (suc (suc m)) i lo q h zero a b s e f =
@@ -70,7 +70,7 @@ module _ (n hi : ℕ) (ws : List ℕ) where
       rw (next, at) (h .1 .0)
   rows-next (suc (suc m)) i lo q h (suc j) a b s e f = rows-next (suc m) (i + 1) _ _ (h .1) j a b (omega arith) (omega arith) f
 
-  pub rows-ranked : (u : ℕ) → Rows n 0 none hi (slots ws 0 u) → Ranked n hi ws u
+  pub rows-ranked : (u : ℕ) → Rows n 0 none hi (slotsFrom ws 0 u) → Ranked n hi ws u
   rows-ranked u h = record {
     some = λ i t. each i t .0 .some;
     rising = λ i j e t. next i j e t .above;
@@ -87,8 +87,8 @@ module _ (n hi : ℕ) (ws : List ℕ) where
       next i j e t = rows-next u 0 0 none h i i j (omega arith) (omega arith) e
 
   -- a slot ends before each later one begins
-  pub rows-order : (m i lo q : ℕ) → Rows n lo q hi (slots ws i m) → (j k a b : ℕ) → j < k → k < m → a ≡ i + j → b ≡ i + k → end (slot ws a) ≤ slot ws b .logical
-  unfolding slots
+  pub rows-order : (m i lo q : ℕ) → Rows n lo q hi (slotsFrom ws i m) → (j k a b : ℕ) → j < k → k < m → a ≡ i + j → b ≡ i + k → end (slot ws a) ≤ slot ws b .logical
+  unfolding slotsFrom
   rows-order zero i lo q h j k a b s t e f = absurd (omega arith)
   rows-order (suc m) i lo q h zero k a b s t e f =
       let at : a ≡ i = omega arith in
@@ -97,7 +97,7 @@ module _ (n hi : ℕ) (ws : List ℕ) where
       rows-order m (i + 1) _ _ (h .1) j (k - 1) a b (omega arith) (omega arith) (omega arith) (omega arith)
 
   -- no logical page is in two slots
-  pub rows-one : (u : ℕ) → Rows n 0 none hi (slots ws 0 u) → (i j k m : ℕ) → i < u → j < u → k < slot ws i .count → m < slot ws j .count
+  pub rows-one : (u : ℕ) → Rows n 0 none hi (slotsFrom ws 0 u) → (i j k m : ℕ) → i < u → j < u → k < slot ws i .count → m < slot ws j .count
       → slot ws i .logical + k ≡ slot ws j .logical + m → i ≡ j
   rows-one u h i j k m a b c d e =
       by-cases (ℕ-discrete i j) (λ g. g) (λ g. absurd (by-cases (decLt i j)
@@ -107,17 +107,17 @@ module _ (n hi : ℕ) (ws : List ℕ) where
   -- ---- what they say
 
   -- page k of slot b
-  pub slot-lookup : (m i lo q : ℕ) → Rows n lo q hi (slots ws i m) → (j b k : ℕ) → j < m → b ≡ i + j → k < slot ws b .count
-      → lookup (slots ws i m) (slot ws b .logical + k) ≡ slot ws b .physical + k
-  unfolding slots
+  pub slot-lookup : (m i lo q : ℕ) → Rows n lo q hi (slotsFrom ws i m) → (j b k : ℕ) → j < m → b ≡ i + j → k < slot ws b .count
+      → lookup (slotsFrom ws i m) (slot ws b .logical + k) ≡ slot ws b .physical + k
+  unfolding slotsFrom
   slot-lookup zero i lo q h j b k s e t = absurd (omega arith)
   slot-lookup (suc m) i lo q h zero b k s e t =
       let at : b ≡ i = omega arith in
       let l = slot ws b .logical + k in
-      ap (λ (x : ℕ). lookup (slot ws x ∷ slots ws (i + 1) m) l) (sym at)
-      ∙ lookup-in (slot ws b) (slots ws (i + 1) m) l (omega arith) (omega arith) ∙ omega arith
+      ap (λ (x : ℕ). lookup (slot ws x ∷ slotsFrom ws (i + 1) m) l) (sym at)
+      ∙ lookup-in (slot ws b) (slotsFrom ws (i + 1) m) l (omega arith) (omega arith) ∙ omega arith
   slot-lookup (suc m) i lo q h (suc j) b k s e t =
-      lookup-after (slot ws i) (slots ws (i + 1) m) (slot ws b .logical + k)
+      lookup-after (slot ws i) (slotsFrom ws (i + 1) m) (slot ws b .logical + k)
       (omega (arith, rows-slot m (i + 1) _ _ (h .1) j b (omega arith) (omega arith) .0 .above))
       ∙ slot-lookup m (i + 1) _ _ (h .1) j b k (omega arith) (omega arith) t
 
@@ -132,12 +132,12 @@ pub record Held (ws : List ℕ) (i m l p : ℕ) : Type 0 where
   pub physical : p ≡ slot ws place .physical + offset
 
 -- what is no hole is held
-pub lookup-held : (ws : List ℕ) (m i l : ℕ) → (lookup (slots ws i m) l ≡ none → ⊥) → Held ws i m l (lookup (slots ws i m) l)
-unfolding slots lookup
+pub lookup-held : (ws : List ℕ) (m i l : ℕ) → (lookup (slotsFrom ws i m) l ≡ none → ⊥) → Held ws i m l (lookup (slotsFrom ws i m) l)
+unfolding slotsFrom lookup
 lookup-held ws zero i l h = absurd (h refl)
 lookup-held ws (suc m) i l h =
     let e = slot ws i in
-    let es = slots ws (i + 1) m in
+    let es = slotsFrom ws (i + 1) m in
     by-cases (decLt l (e .logical))
     (λ a. absurd (h (lookup-before e es l a)))
     (λ a. by-cases (decLt l (end e))

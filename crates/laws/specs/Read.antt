@@ -9,7 +9,7 @@ use lib.ListN.{length, getD, take, drop, length-take, length-drop, List·getD-eq
 use lib.Seq.{getD-take, getD-drop}
 use Rattle.rules.specs.Extents.{none, runs}
 use Rattle.rules.specs.Device.{Device, lines, extents}
-use Rattle.rules.specs.Read.{holes, found}
+use Rattle.rules.specs.Read.{withHoles, found}
 use Rattle.laws.specs.Unique.{unique}
 use Rattle.laws.specs.Runs.{runs-rows, runs-lookup, Words}
 use Rattle.laws.specs.Cut.{below, from, below-rows, from-rows, below-lookup, from-lookup}
@@ -40,6 +40,6 @@ window n z a c t f w =
 
 -- what a read answers: the map's extents, clipped to the range, and the holes between them
 pub found-window : (l n : ℕ) (d : Device) → 0 < d .pages → l + n ≤ lines d → Words (d .table)
-    → found l n d ≡ holes l (l + n) (below (l + n) (from l (extents d)))
+    → found l n d ≡ withHoles l (l + n) (below (l + n) (from l (extents d)))
 unfolding found extents
-found-window l n d z h w = ap (holes l (l + n)) (sym (window (d .pages) z l n (d .table) h w))
+found-window l n d z h w = ap (withHoles l (l + n)) (sym (window (d .pages) z l n (d .table) h w))

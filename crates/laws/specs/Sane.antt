@@ -26,8 +26,8 @@ pub record Sizes (b n l m : ℕ) : Type 0 where
 
 pub record Shaped (s : Lent) : Type 0 where
   pub sizes : Sizes (s .head .blocks) (s .head .pages) (s .head .logical) (s .head .slots)
-  pub extents : length (s .extents) ≡ 3 * s .head .slots
-  pub blocks : length (s .blocks) ≡ stride * s .head .blocks
+  pub extents : length (s .extentWords) ≡ 3 * s .head .slots
+  pub blocks : length (s .blockWords) ≡ stride * s .head .blocks
   pub spare : length (s .spare) ≡ s .head .blocks * s .head .pages
 
 -- the pages of slot i that lie in block b: all of them or none, as no extent crosses a block
@@ -39,7 +39,7 @@ pub record Sane (s : Lent) : Type 0 where
   pub few : s .head .used ≤ s .head .slots
   -- rules 1 and 2
   pub rows : Rows (s .head .pages) 0 none (s .head .logical) (inUse s)
-  pub zeros : (k : ℕ) → 3 * s .head .used ≤ k → k < length (s .extents) → getD (s .extents) k 0 ≡ 0
+  pub zeros : (k : ℕ) → 3 * s .head .used ≤ k → k < length (s .extentWords) → getD (s .extentWords) k 0 ≡ 0
   -- rule 3
   pub full : (b : ℕ) → b < s .head .blocks → fillOf s b ≤ s .head .pages
   pub labels : (b o : ℕ) → b < s .head .blocks → o < fillOf s b → labelOf s (b * s .head .pages + o) < s .head .logical
@@ -49,7 +49,7 @@ pub record Sane (s : Lent) : Type 0 where
   pub below : (i : ℕ) → i < s .head .used → slotOf s i .physical % s .head .pages + slotOf s i .count ≤ fillOf s (slotOf s i .physical / s .head .pages)
   pub labelled : (i k : ℕ) → i < s .head .used → k < slotOf s i .count → labelOf s (slotOf s i .physical + k) ≡ slotOf s i .logical + k
   -- rule 5
-  pub counts : (b : ℕ) → b < s .head .blocks → validOf s b ≡ sum (s .head .used) (pagesIn (s .extents) (s .head .pages) b)
+  pub counts : (b : ℕ) → b < s .head .blocks → validOf s b ≡ sum (s .head .used) (pagesIn (s .extentWords) (s .head .pages) b)
   -- rule 6
   pub kept : s .head .reserve < s .head .blocks
   pub empty : fillOf s (s .head .reserve) ≡ 0

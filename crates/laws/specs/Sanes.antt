@@ -27,10 +27,10 @@ pages-block n b p c h =
     count-const c (λ k. eqb ((p + k) / n) b) (eqb (p / n) b) (λ k t. ap (λ (x : ℕ). eqb x b) (div-shift n p k (omega arith)))
 
 module _ (s : Lent) (inside : (i : ℕ) → i < s .head .used → offsetOf s (slotOf s i .physical) + slotOf s i .count ≤ s .head .pages) where
-  pub mapped-pages : (b : ℕ) → mappedIn s b ≡ sum (s .head .used) (pagesIn (s .extents) (s .head .pages) b)
+  pub mapped-pages : (b : ℕ) → mappedIn s b ≡ sum (s .head .used) (pagesIn (s .extentWords) (s .head .pages) b)
   unfolding mappedIn pagesIn
   mapped-pages b =
-      sum-same (s .head .used) (λ i. count (slotOf s i .count) (λ k. eqb (blockOf s (slotOf s i .physical + k)) b)) (pagesIn (s .extents) (s .head .pages) b)
+      sum-same (s .head .used) (λ i. count (slotOf s i .count) (λ k. eqb (blockOf s (slotOf s i .physical + k)) b)) (pagesIn (s .extentWords) (s .head .pages) b)
       (λ i t. pages-block (s .head .pages) b (slotOf s i .physical) (slotOf s i .count) (inside i t))
 
 -- ---- rule 4, page by page
@@ -63,7 +63,7 @@ pub record First (s : Lent) : Type 0 where
   pub some : (i : ℕ) → i < s .head .used → 1 ≤ slotOf s i .count
   pub rising : (i j : ℕ) → j ≡ suc i → j < s .head .used → end (slotOf s i) ≤ slotOf s j .logical
   pub high : (i : ℕ) → i < s .head .used → end (slotOf s i) ≤ s .head .logical
-  pub zeros : (k : ℕ) → 3 * s .head .used ≤ k → k < length (s .extents) → getD (s .extents) k 0 ≡ 0
+  pub zeros : (k : ℕ) → 3 * s .head .used ≤ k → k < length (s .extentWords) → getD (s .extentWords) k 0 ≡ 0
 
 pub rule1-true : (s : Lent) → rule1 s ≡ true → First s
 unfolding rule1
@@ -80,8 +80,8 @@ rule1-true s e =
       high = λ i t. leb-true _ _ (all-each _ _ (e₃ .1) i t);
       zeros = λ k a b.
           let at : 3 * u + (k - 3 * u) ≡ k = omega arith in
-          sym (ap (λ (x : ℕ). getD (s .extents) x 0) at)
-          ∙ eqb-true (getD (s .extents) (3 * u + (k - 3 * u)) 0) 0 (all-each _ _ (e₄ .1) (k - 3 * u) (omega arith));
+          sym (ap (λ (x : ℕ). getD (s .extentWords) x 0) at)
+          ∙ eqb-true (getD (s .extentWords) (3 * u + (k - 3 * u)) 0) 0 (all-each _ _ (e₄ .1) (k - 3 * u) (omega arith));
     }
 
 pub true-rule1 : (s : Lent) → First s → rule1 s ≡ true
@@ -210,7 +210,7 @@ module _ (s : Lent) (z : Shaped s) (e : sound s ≡ true) where
       let k : p % n + (c - 1) < n = omega (arith, one .some i h, two .inside i h) in
       omega (arith, one .some i h, last i h .below, mod-shift n p (c - 1) k, ap (fillOf s) (div-shift n p (c - 1) k))
 
-  ranked : Ranked (s .head .pages) (s .head .logical) (s .extents) (s .head .used)
+  ranked : Ranked (s .head .pages) (s .head .logical) (s .extentWords) (s .head .used)
   ranked = record {
     some = one .some;
     rising = one .rising;
@@ -225,7 +225,7 @@ module _ (s : Lent) (z : Shaped s) (e : sound s ≡ true) where
       let six = rule6-true s (rules .5) in
       record {
         few = one .few;
-        rows = ranked-rows (s .head .pages) (s .head .logical) (s .extents) (s .head .used) ranked;
+        rows = ranked-rows (s .head .pages) (s .head .logical) (s .extentWords) (s .head .used) ranked;
         zeros = one .zeros;
         full = three .full;
         labels = three .labels;
@@ -241,10 +241,10 @@ module _ (s : Lent) (z : Shaped s) (e : sound s ≡ true) where
 -- ---- to the tests
 
 -- rules 1 to 6, where rules 1 and 2 hold slot by slot
-module _ (s : Lent) (few : s .head .used ≤ s .head .slots) (r : Ranked (s .head .pages) (s .head .logical) (s .extents) (s .head .used))
-    (zeros : (k : ℕ) → 3 * s .head .used ≤ k → k < length (s .extents) → getD (s .extents) k 0 ≡ 0) (third : Third s) where
+module _ (s : Lent) (few : s .head .used ≤ s .head .slots) (r : Ranked (s .head .pages) (s .head .logical) (s .extentWords) (s .head .used))
+    (zeros : (k : ℕ) → 3 * s .head .used ≤ k → k < length (s .extentWords) → getD (s .extentWords) k 0 ≡ 0) (third : Third s) where
   pub ranked-sound : ((i k : ℕ) → i < s .head .used → k < slotOf s i .count → Page s (slotOf s i .physical + k) (slotOf s i .logical + k))
-      → ((b : ℕ) → b < s .head .blocks → validOf s b ≡ sum (s .head .used) (pagesIn (s .extents) (s .head .pages) b))
+      → ((b : ℕ) → b < s .head .blocks → validOf s b ≡ sum (s .head .used) (pagesIn (s .extentWords) (s .head .pages) b))
       → s .head .reserve < s .head .blocks → fillOf s (s .head .reserve) ≡ 0 → sound s ≡ true
   unfolding sound
   ranked-sound pages counts kept empty =
@@ -258,8 +258,8 @@ module _ (s : Lent) (few : s .head .used ≤ s .head .slots) (r : Ranked (s .hea
       )
 
 module _ (s : Lent) (z : Shaped s) (f : Sane s) where
-  pub sane-ranked : Ranked (s .head .pages) (s .head .logical) (s .extents) (s .head .used)
-  sane-ranked = rows-ranked (s .head .pages) (s .head .logical) (s .extents) (s .head .used) (f .rows)
+  pub sane-ranked : Ranked (s .head .pages) (s .head .logical) (s .extentWords) (s .head .used)
+  sane-ranked = rows-ranked (s .head .pages) (s .head .logical) (s .extentWords) (s .head .used) (f .rows)
 
   pub sane-page : (i k : ℕ) → i < s .head .used → k < slotOf s i .count → Page s (slotOf s i .physical + k) (slotOf s i .logical + k)
   sane-page i k h t =

@@ -64,13 +64,13 @@ true-shape h e k x f =
 pub shaped-true : (s : Lent) → shaped s ≡ true → Shaped s
 unfolding shaped
 shaped-true s t =
-    let f = shape-true (s .head) (length (s .extents)) (length (s .blocks)) (length (s .spare)) t in
+    let f = shape-true (s .head) (length (s .extentWords)) (length (s .blockWords)) (length (s .spare)) t in
     record { sizes = f .sizes; extents = f .extents-is; blocks = f .blocks-is; spare = f .spare-is }
 
 pub true-shaped : (s : Lent) → Shaped s → shaped s ≡ true
 unfolding shaped
 true-shaped s h =
-    true-shape (s .head) (length (s .extents)) (length (s .blocks)) (length (s .spare))
+    true-shape (s .head) (length (s .extentWords)) (length (s .blockWords)) (length (s .spare))
     (record { sizes = h .sizes; extents-is = h .extents; blocks-is = h .blocks; spare-is = h .spare })
 
 -- ---- bounds

@@ -5,26 +5,26 @@ use mathlib.Core.List.{List, [], _∷_, _++_}
 use native.Mathlib.Omega.{arith}
 use native.Mathlib.Nat.{not-suc-le-zero, le-of-suc-le-suc}
 use lib.ListN.{length, getD, take, drop}
-use Rattle.rules.specs.Extents.{slot, slots, flat}
+use Rattle.rules.specs.Extents.{slot, slotsFrom, flat}
 use Rattle.rules.specs.declared.Extent.{Extent}
 use Rattle.laws.specs.Unique.{extent-path}
 
 -- ---- slots read from words
 
-pub slots-length : (ws : List ℕ) (i u : ℕ) → length (slots ws i u) ≡ u
-unfolding slots
+pub slots-length : (ws : List ℕ) (i u : ℕ) → length (slotsFrom ws i u) ≡ u
+unfolding slotsFrom
 slots-length ws i zero = refl
 slots-length ws i (suc u) = ap suc (slots-length ws (i + 1) u)
 
-pub slots-at : (ws : List ℕ) (i u j k : ℕ) (x : Extent) → j < u → k ≡ i + j → getD (slots ws i u) j x ≡ slot ws k
-unfolding slots
+pub slots-at : (ws : List ℕ) (i u j k : ℕ) (x : Extent) → j < u → k ≡ i + j → getD (slotsFrom ws i u) j x ≡ slot ws k
+unfolding slotsFrom
 slots-at ws i zero j k x h e = absurd (omega arith)
 slots-at ws i (suc u) zero k x h e = let at : i ≡ k = omega arith in ap (slot ws) at
 slots-at ws i (suc u) (suc j) k x h e = slots-at ws (i + 1) u j k x (omega arith) (omega arith)
 
 -- one slot more stands at the end
-pub slots-more : (ws : List ℕ) (i u j : ℕ) → j ≡ i + u → slots ws i (u + 1) ≡ slots ws i u ++ slot ws j ∷ []
-unfolding slots
+pub slots-more : (ws : List ℕ) (i u j : ℕ) → j ≡ i + u → slotsFrom ws i (u + 1) ≡ slotsFrom ws i u ++ slot ws j ∷ []
+unfolding slotsFrom
 slots-more ws i zero j e = let at : i ≡ j = omega arith in ap (λ (k : ℕ). slot ws k ∷ []) at
 slots-more ws i (suc u) j e =
     let s : suc u + 1 ≡ suc (u + 1) = omega arith in
@@ -42,8 +42,8 @@ slot-behind a b c ws i j e =
     let third : 3 * j + 2 ≡ suc (suc (suc (3 * i + 2))) = omega arith in
     extent-path (slot (a ∷ b ∷ c ∷ ws) j) (slot ws i) (ap word first) (ap word second) (ap word third)
 
-slots-behind : (a b c : ℕ) (ws : List ℕ) (i j u : ℕ) → j ≡ suc i → slots (a ∷ b ∷ c ∷ ws) j u ≡ slots ws i u
-unfolding slots
+slots-behind : (a b c : ℕ) (ws : List ℕ) (i j u : ℕ) → j ≡ suc i → slotsFrom (a ∷ b ∷ c ∷ ws) j u ≡ slotsFrom ws i u
+unfolding slotsFrom
 slots-behind a b c ws i j zero e = refl
 slots-behind a b c ws i j (suc u) e =
     ap₂ (λ (x : Extent) (xs : List Extent). x ∷ xs) (slot-behind a b c ws i j e) (slots-behind a b c ws (i + 1) (j + 1) u (omega arith))
@@ -74,15 +74,15 @@ flat-drop (suc s) (e ∷ es) z h = rw triple (flat-drop s es z (le-of-suc-le-suc
 
 -- ---- there and back
 
-pub slots-flat : (es : List Extent) (z : List ℕ) → slots (flat es ++ z) 0 (length es) ≡ es
-unfolding slots flat
+pub slots-flat : (es : List Extent) (z : List ℕ) → slotsFrom (flat es ++ z) 0 (length es) ≡ es
+unfolding slotsFrom flat
 slots-flat [] z = refl
 slots-flat (e ∷ es) z =
     ap (λ (xs : List Extent). e ∷ xs)
     (slots-behind (e .logical) (e .physical) (e .count) (flat es ++ z) 0 (0 + 1) (length es) (omega arith) ∙ slots-flat es z)
 
-pub flat-slots : (ws : List ℕ) (u : ℕ) → 3 * u ≤ length ws → flat (slots ws 0 u) ≡ take (3 * u) ws
-unfolding slots flat
+pub flat-slots : (ws : List ℕ) (u : ℕ) → 3 * u ≤ length ws → flat (slotsFrom ws 0 u) ≡ take (3 * u) ws
+unfolding slotsFrom flat
 flat-slots ws zero h = refl
 flat-slots [] (suc u) h = absurd (omega arith)
 flat-slots (a ∷ []) (suc u) h = absurd (omega arith)

@@ -12,7 +12,7 @@ use lib.Arith.{digits-div, digits-mod, digits-lt}
 use lib.ListN.{length, getD, drop, replicate, length-append, length-replicate, length-drop, take-append-drop, List·getD-eq-default}
 use lib.Seq.{ext-getD, getD-drop, getD-append-add}
 use Rattle.rules.specs.Counting.{sum, count, tabulate}
-use Rattle.rules.specs.Extents.{none, lookup, slots, flat}
+use Rattle.rules.specs.Extents.{none, lookup, slotsFrom, flat}
 use Rattle.rules.specs.Lent.{Lent, slotOf, inUse, fillOf, validOf, labelOf}
 use Rattle.rules.specs.Shape.{shaped}
 use Rattle.rules.specs.Sound.{sound}
@@ -83,14 +83,14 @@ pub device-page : (s : Lent) → Rows (s .head .pages) 0 none (s .head .logical)
 device-page s r d i k h t =
     let l = slotOf s i .logical + k in
     let p = slotOf s i .physical + k in
-    let a = rows-ranked (s .head .pages) (s .head .logical) (s .extents) (s .head .used) r in
+    let a = rows-ranked (s .head .pages) (s .head .logical) (s .extentWords) (s .head .used) r in
     let e = device-at s l (omega (arith, a .high i h))
-    ∙ slot-lookup (s .head .pages) (s .head .logical) (s .extents) (s .head .used) 0 0 none r i i k h (omega arith) t in
+    ∙ slot-lookup (s .head .pages) (s .head .logical) (s .extentWords) (s .head .used) 0 0 none r i i k h (omega arith) t in
     home-page s d p l (subst (λ (x : ℕ). Home (deviceOf s) l x) e (d .home l (λ g. omega (arith, a .small i h))))
 
 -- rule 5 of both
 pub device-valid : (s : Lent) → Rows (s .head .pages) 0 none (s .head .logical) (inUse s) → Sound (deviceOf s) → (b : ℕ) → b < s .head .blocks
-    → valid (deviceOf s) b ≡ sum (s .head .used) (pagesIn (s .extents) (s .head .pages) b)
+    → valid (deviceOf s) b ≡ sum (s .head .used) (pagesIn (s .extentWords) (s .head .pages) b)
 unfolding deviceOf
 device-valid s r d b h =
     let n = s .head .pages in
@@ -99,7 +99,7 @@ device-valid s r d b h =
     ∙ ap (λ (x : ℕ). count x (λ l. eqb (at (deviceOf s) l / n) b)) (device-lines s)
     ∙ count-same (s .head .logical) (λ l. eqb (at (deviceOf s) l / n) b) (λ l. eqb (lookup (inUse s) l / n) b)
     (λ l t. ap (λ (x : ℕ). eqb (x / n) b) (device-at s l t))
-    ∙ in-slots n (s .head .logical) b (none-block (deviceOf s) d b k) (s .extents) (s .head .used) r
+    ∙ in-slots n (s .head .logical) b (none-block (deviceOf s) d b k) (s .extentWords) (s .head .used) r
 
 -- ---- a sound state has a good device, and its words are those of that device
 
@@ -113,7 +113,7 @@ module _ (s : Lent) (z : Shaped s) (f : Sane s) where
       let t : l < s .head .logical = by-cases (decLt l (s .head .logical)) (λ a. a)
       (λ a. absurd (m (List·getD-eq-default (deviceOf s .table) none {n = l} (omega (arith, device-lines s))))) in
       let e = device-at s l t in
-      let h = lookup-held (s .extents) (s .head .used) 0 l (λ g. m (e ∙ g)) in
+      let h = lookup-held (s .extentWords) (s .head .used) 0 l (λ g. m (e ∙ g)) in
       let p = sane-page s z f (h .place) (h .offset) (omega (arith, h .high)) (h .inside) in
       subst₂ (λ (x y : ℕ). Home (deviceOf s) x y) (sym (h .logical)) (sym (e ∙ h .physical)) (page-home s (some-pages (z .sizes)) _ _ p)
 
@@ -139,7 +139,7 @@ module _ (s : Lent) (z : Shaped s) (f : Sane s) where
 
   -- 01: the extents of the map number at most M
   used-extents : length (extents (deviceOf s)) ≡ s .head .used
-  used-extents = ap length extents-in-use ∙ slots-length (s .extents) 0 (s .head .used)
+  used-extents = ap length extents-in-use ∙ slots-length (s .extentWords) 0 (s .head .used)
 
   pub sane-good : Good (deviceOf s)
   unfolding deviceOf
@@ -153,16 +153,16 @@ module _ (s : Lent) (z : Shaped s) (f : Sane s) where
   valid-in-use b h = device-valid s (f .rows) device-sound b h ∙ sym (f .counts b h)
 
   -- the unused slots are zero
-  rest-zero : (m : ℕ) → 3 * s .head .used + m ≡ length (s .extents) → replicate m 0 ≡ drop (3 * s .head .used) (s .extents)
+  rest-zero : (m : ℕ) → 3 * s .head .used + m ≡ length (s .extentWords) → replicate m 0 ≡ drop (3 * s .head .used) (s .extentWords)
   rest-zero m e =
       let u = 3 * s .head .used in
       let size = length-replicate {A = ℕ} m 0 in
-      ext-getD 0 (replicate m 0) (drop u (s .extents)) (omega (arith, length-drop u (s .extents)))
-      (λ i t. replicate-at 0 m i ∙ sym (getD-drop u (s .extents) i 0 ∙ f .zeros (u + i) (omega arith) (omega arith)))
+      ext-getD 0 (replicate m 0) (drop u (s .extentWords)) (omega (arith, length-drop u (s .extentWords)))
+      (λ i t. replicate-at 0 m i ∙ sym (getD-drop u (s .extentWords) i 0 ∙ f .zeros (u + i) (omega arith) (omega arith)))
 
-  words-extents : flat (extents (deviceOf s)) ++ replicate (3 * (s .head .slots - length (extents (deviceOf s)))) 0 ≡ s .extents
+  words-extents : flat (extents (deviceOf s)) ++ replicate (3 * (s .head .slots - length (extents (deviceOf s)))) 0 ≡ s .extentWords
   words-extents =
-      let ws = s .extents in
+      let ws = s .extentWords in
       let u = s .head .used in
       ap₂ (λ (es : List Extent) (k : ℕ). flat es ++ replicate (3 * (s .head .slots - k)) 0) extents-in-use used-extents
       ∙ ap₂ (λ (a b : List ℕ). a ++ b) (flat-slots ws u (omega (arith, z .extents, f .few))) (rest-zero (3 * (s .head .slots - u)) (omega (arith, z .extents, f .few)))
@@ -181,8 +181,8 @@ module _ (s : Lent) (z : Shaped s) (f : Sane s) where
           reserve = s .head .reserve;
           last = s .head .last;
         };
-        extents = words-extents i;
-        blocks = words-records (s .head .blocks) (s .blocks) 0 (fillOf s) (valid (deviceOf s)) (z .blocks)
+        extentWords = words-extents i;
+        blockWords = words-records (s .head .blocks) (s .blockWords) 0 (fillOf s) (valid (deviceOf s)) (z .blocks)
             (λ b h. refl) (λ b c h e. let at : c ≡ b = omega arith in ap (valid (deviceOf s)) at ∙ valid-in-use b h) i;
         spare = s .spare;
       }
@@ -258,7 +258,7 @@ module _ (d : Device) (g : Good d) where
   words-rows : Rows (d .pages) 0 none (lines d) (inUse (wordsOf d))
   words-rows = rw (words-in-use d) (extents-rows d (g .sound))
 
-  words-zeros : (k : ℕ) → 3 * length (extents d) ≤ k → getD (wordsOf d .extents) k 0 ≡ 0
+  words-zeros : (k : ℕ) → 3 * length (extents d) ≤ k → getD (wordsOf d .extentWords) k 0 ≡ 0
   unfolding wordsOf
   words-zeros k h =
       let es = flat (extents d) in
@@ -272,7 +272,7 @@ module _ (d : Device) (g : Good d) where
       let s = wordsOf d in
       let e = words-device d g in
       let sd : Sound (deviceOf s) = subst Sound (sym e) (g .sound) in
-      ranked-sound s (g .few) (rows-ranked (d .pages) (lines d) (s .extents) (length (extents d)) words-rows) (λ k a b. words-zeros k a)
+      ranked-sound s (g .few) (rows-ranked (d .pages) (lines d) (s .extentWords) (length (extents d)) words-rows) (λ k a b. words-zeros k a)
       (record {
         full = λ b h. omega (arith, words-fill d b, g .sound .full b h);
         labels = λ b o h k. g .sound .labels b o h (omega (arith, words-fill d b));
@@ -330,5 +330,5 @@ same-map s t hs es ht et a = sym (sound-iff s hs .0 es .1) ∙ ap wordsOf (devic
 pub apart : (s : Lent) → Sane s → (i j k m : ℕ) → i < s .head .used → j < s .head .used → (i ≡ j → ⊥) → k < slotOf s i .count → m < slotOf s j .count
     → slotOf s i .physical + k ≡ slotOf s j .physical + m → ⊥
 apart s f i j k m a b ne c d e =
-    ne (rows-one (s .head .pages) (s .head .logical) (s .extents) (s .head .used) (f .rows) i j k m a b c d
+    ne (rows-one (s .head .pages) (s .head .logical) (s .extentWords) (s .head .used) (f .rows) i j k m a b c d
     (sym (f .labelled i k a c) ∙ ap (labelOf s) e ∙ f .labelled j m b d))

@@ -10,7 +10,7 @@ use native.Mathlib.Numerals.{add-one}
 use borrow.Author.Tests.{ne-eqb}
 use lib.Dec.{eqb}
 use Rattle.rules.specs.Counting.{one, sum, count}
-use Rattle.rules.specs.Extents.{none, end, lookup, slot, slots}
+use Rattle.rules.specs.Extents.{none, end, lookup, slot, slotsFrom}
 use Rattle.rules.specs.declared.Extent.{Extent}
 use Rattle.laws.specs.Sums.{sum-same, sum-add, sum-zero, count-sum, count-same, count-none}
 use Rattle.laws.specs.Rows.{Rows, lookup-before, lookup-in, lookup-after, lookup-low, div-shift}
@@ -77,12 +77,12 @@ unfolding total
 total-append f [] ys = omega arith
 total-append f (x ∷ xs) ys = omega (arith, total-append f xs ys)
 
-pub total-slots : (f : Extent → ℕ) (ws : List ℕ) (u : ℕ) → total f (slots ws 0 u) ≡ sum u (λ i. f (slot ws i))
-unfolding total sum slots
+pub total-slots : (f : Extent → ℕ) (ws : List ℕ) (u : ℕ) → total f (slotsFrom ws 0 u) ≡ sum u (λ i. f (slot ws i))
+unfolding total sum slotsFrom
 total-slots f ws zero = refl
 total-slots f ws (suc u) =
-    let at : slots ws 0 (suc u) ≡ slots ws 0 u ++ slot ws u ∷ [] = rw (add-one u) at (slots-more ws 0 u u (omega arith)) in
-    ap (total f) at ∙ total-append f (slots ws 0 u) (slot ws u ∷ []) ∙ omega (arith, total-slots f ws u)
+    let at : slotsFrom ws 0 (suc u) ≡ slotsFrom ws 0 u ++ slot ws u ∷ [] = rw (add-one u) at (slots-more ws 0 u u (omega arith)) in
+    ap (total f) at ∙ total-append f (slotsFrom ws 0 u) (slot ws u ∷ []) ∙ omega (arith, total-slots f ws u)
 
 -- ---- the lines of a range
 
@@ -151,16 +151,16 @@ module _ (n hi c : ℕ) (o : none / n ≡ c → ⊥) where
         in-range es _ _ (h .1) a m,
       )
 
-  pub in-range-slots : (ws : List ℕ) (u lo q : ℕ) → Rows n lo q hi (slots ws 0 u) → (a m : ℕ)
-      → count m (λ i. eqb (lookup (slots ws 0 u) (a + i) / n) c) ≡ sum u (λ i. inRange n c a (a + m) (slot ws i))
-  in-range-slots ws u lo q h a m = in-range (slots ws 0 u) lo q h a m ∙ total-slots (inRange n c a (a + m)) ws u
+  pub in-range-slots : (ws : List ℕ) (u lo q : ℕ) → Rows n lo q hi (slotsFrom ws 0 u) → (a m : ℕ)
+      → count m (λ i. eqb (lookup (slotsFrom ws 0 u) (a + i) / n) c) ≡ sum u (λ i. inRange n c a (a + m) (slot ws i))
+  in-range-slots ws u lo q h a m = in-range (slotsFrom ws 0 u) lo q h a m ∙ total-slots (inRange n c a (a + m)) ws u
 
   -- all lines: rule 5
-  pub in-slots : (ws : List ℕ) (u : ℕ) → Rows n 0 none hi (slots ws 0 u) → count hi (λ l. eqb (lookup (slots ws 0 u) l / n) c) ≡ sum u (pagesIn ws n c)
+  pub in-slots : (ws : List ℕ) (u : ℕ) → Rows n 0 none hi (slotsFrom ws 0 u) → count hi (λ l. eqb (lookup (slotsFrom ws 0 u) l / n) c) ≡ sum u (pagesIn ws n c)
   unfolding inRange pagesIn
   in-slots ws u h =
-      count-same hi (λ l. eqb (lookup (slots ws 0 u) l / n) c) (λ l. eqb (lookup (slots ws 0 u) (0 + l) / n) c)
-      (λ l t. let at : l ≡ 0 + l = omega arith in ap (λ (x : ℕ). eqb (lookup (slots ws 0 u) x / n) c) at)
+      count-same hi (λ l. eqb (lookup (slotsFrom ws 0 u) l / n) c) (λ l. eqb (lookup (slotsFrom ws 0 u) (0 + l) / n) c)
+      (λ l t. let at : l ≡ 0 + l = omega arith in ap (λ (x : ℕ). eqb (lookup (slotsFrom ws 0 u) x / n) c) at)
       ∙ in-range-slots ws u 0 none h 0 hi
       ∙ sum-same u (λ i. inRange n c 0 (0 + hi) (slot ws i)) (pagesIn ws n c)
       (λ i t. ap (λ (x : ℕ). cond (eqb (slot ws i .physical / n) c) x 0)

@@ -11,7 +11,7 @@ use Rattle.rules.specs.Counting.{one, count}
 use Rattle.rules.specs.Extents.{none}
 use Rattle.rules.specs.Device.{Device, blocks, lines, at, valid}
 use Rattle.rules.specs.Placement.{putAt, putsAt, placesAt}
-use Rattle.rules.specs.Number.{withTable, trimmed}
+use Rattle.rules.specs.Request.{withTable, trimmed}
 use Rattle.rules.specs.Reclaim.{reclaimedAt}
 use Rattle.laws.specs.Sums.{count-same}
 use Rattle.laws.specs.Cells.{count-sets, count-wiped}

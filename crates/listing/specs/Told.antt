@@ -5,8 +5,8 @@ use mathlib.Core.List.{List, [], _∷_, _++_, append-nil}
 use native.Mathlib.Omega.{arith}
 use lib.ListN.{length, take, drop, set, length-append, length-drop}
 use lib.Seq.{sets, length-sets, sets-eq, take-add, drop-drop, take-at, take-all, drop-at, length-take-le}
-use Rattle.rules.specs.Extents.{extent, end, flat, slot, slots}
-use Rattle.rules.specs.Read.{hole}
+use Rattle.rules.specs.Extents.{extent, end, flat, slot, slotsFrom}
+use Rattle.rules.specs.Read.{withHole}
 use Rattle.rules.specs.Calls.{over}
 use Rattle.rules.specs.declared.Extent.{Extent}
 use Rattle.laws.specs.Slots.{flat-length, flat-append}
@@ -62,21 +62,21 @@ module _ (pos e start reach : ℕ) (x : Extent) (s : pos < end x) (a : start ≡
   abbrev piece : Extent
   piece = extent start (x .physical + (start - x .logical)) (reach - start)
 
-  two : tells pos e x ≡ hole pos start [] ++ piece ∷ []
+  two : tells pos e x ≡ withHole pos start [] ++ piece ∷ []
   two =
       tells-some pos e x s ∙ hole-append pos (starts pos x) [] (clipped pos e x ∷ [])
-      ∙ ap₂ (λ (i j : ℕ). hole pos i [] ++ extent i (x .physical + (i - x .logical)) (j - i) ∷ []) (sym a) (sym b)
+      ∙ ap₂ (λ (i j : ℕ). withHole pos i [] ++ extent i (x .physical + (i - x .logical)) (j - i) ∷ []) (sym a) (sym b)
 
-  pub tells-length : length (tells pos e x) ≡ length (hole pos start []) + 1
-  tells-length = ap length two ∙ length-append (hole pos start []) (piece ∷ [])
+  pub tells-length : length (tells pos e x) ≡ length (withHole pos start []) + 1
+  tells-length = ap length two ∙ length-append (withHole pos start []) (piece ∷ [])
 
-  pub lays-tells : (k j : ℕ) (out mid out′ : List ℕ) → Lays k (hole pos start []) out j mid
+  pub lays-tells : (k j : ℕ) (out mid out′ : List ℕ) → Lays k (withHole pos start []) out j mid
       → out′ ≡ laid j (extent start (x .physical + (start - x .logical)) (reach - start) ∷ []) mid → Lays k (tells pos e x) out (j + 1) out′
   lays-tells k j out mid out′ h g = record {
     next = omega (arith, tells-length, h .next);
     is =
         g ∙ ap (laid j (piece ∷ [])) (h .is)
-        ∙ sym (ap (λ (xs : List Extent). laid k xs out) two ∙ laid-append k j (hole pos start []) (piece ∷ []) out (h .next));
+        ∙ sym (ap (λ (xs : List Extent). laid k xs out) two ∙ laid-append k j (withHole pos start []) (piece ∷ []) out (h .next));
   }
 
 -- ---- a walk that has laid k pieces out and has others left
@@ -131,36 +131,36 @@ told-end total out₀ k r rest out out′ f h g =
 -- ---- the walk over slots, at slot i of u, the answer at pos
 
 abbrev pub Telling : ℕ → ℕ → List ℕ → ℕ → List ℕ → ℕ → ℕ → ℕ → List ℕ → Type 0
-Telling l e ws u out₀ i pos k out = Told (between l e (slots ws 0 u)) out₀ k (between pos e (slots ws i (u - i))) out
+Telling l e ws u out₀ i pos k out = Told (between l e (slotsFrom ws 0 u)) out₀ k (between pos e (slotsFrom ws i (u - i))) out
 
 pub telling-start : (l e : ℕ) (ws : List ℕ) (u : ℕ) (out : List ℕ) → Telling l e ws u out 0 l 0 out
-telling-start l e ws u out = told-start (between l e (slots ws 0 u)) (between l e (slots ws 0 (u - 0))) out (walk-start l e ws u)
+telling-start l e ws u out = told-start (between l e (slotsFrom ws 0 u)) (between l e (slotsFrom ws 0 (u - 0))) out (walk-start l e ws u)
 
-module _ (l e : ℕ) (ws : List ℕ) (u : ℕ) (out₀ : List ℕ) (i pos k : ℕ) (out : List ℕ) (f : 3 * length (between l e (slots ws 0 u)) ≤ length out₀)
+module _ (l e : ℕ) (ws : List ℕ) (u : ℕ) (out₀ : List ℕ) (i pos k : ℕ) (out : List ℕ) (f : 3 * length (between l e (slotsFrom ws 0 u)) ≤ length out₀)
     (h : Telling l e ws u out₀ i pos k out) where
   abbrev total : List Extent
-  total = between l e (slots ws 0 u)
+  total = between l e (slotsFrom ws 0 u)
 
   abbrev rest : List Extent
-  rest = between pos e (slots ws i (u - i))
+  rest = between pos e (slotsFrom ws i (u - i))
 
   -- the last hole, where no slot is left that has a piece
-  pub telling-room : rest ≡ hole pos e [] → 3 * (k + length (hole pos e [])) ≤ length out
-  telling-room g = told-room total out₀ k (hole pos e []) rest [] out h f (g ∙ sym (append-nil (hole pos e [])))
+  pub telling-room : rest ≡ withHole pos e [] → 3 * (k + length (withHole pos e [])) ≤ length out
+  telling-room g = told-room total out₀ k (withHole pos e []) rest [] out h f (g ∙ sym (append-nil (withHole pos e [])))
 
-  pub telling-end : rest ≡ hole pos e [] → (r : ℕ) (out′ : List ℕ) → Lays k (hole pos e []) out r out′ → (r ≡ length total) × (out′ ≡ over (flat total) out₀)
-  telling-end g r out′ y = told-end total out₀ k r (hole pos e []) out out′ f (rw g at h) y
+  pub telling-end : rest ≡ withHole pos e [] → (r : ℕ) (out′ : List ℕ) → Lays k (withHole pos e []) out r out′ → (r ≡ length total) × (out′ ≡ over (flat total) out₀)
+  telling-end g r out′ y = told-end total out₀ k r (withHole pos e []) out out′ f (rw g at h) y
 
   -- slot i's pieces
-  module _ (sound : Sound (slots ws 0 u)) (s : i < u) (p : pos ≤ e) (g : starts pos (slot ws i) < e) where
-    next : rest ≡ tells pos e (slot ws i) ++ between (reaches pos e (slot ws i)) e (slots ws (i + 1) (u - (i + 1)))
+  module _ (sound : Sound (slotsFrom ws 0 u)) (s : i < u) (p : pos ≤ e) (g : starts pos (slot ws i) < e) where
+    next : rest ≡ tells pos e (slot ws i) ++ between (reaches pos e (slot ws i)) e (slotsFrom ws (i + 1) (u - (i + 1)))
     next = walk-more ws u pos e i sound s p g
 
     pub telling-fits : 3 * (k + length (tells pos e (slot ws i))) ≤ length out
     telling-fits =
-        told-room total out₀ k (tells pos e (slot ws i)) rest (between (reaches pos e (slot ws i)) e (slots ws (i + 1) (u - (i + 1)))) out h f next
+        told-room total out₀ k (tells pos e (slot ws i)) rest (between (reaches pos e (slot ws i)) e (slotsFrom ws (i + 1) (u - (i + 1)))) out h f next
 
     pub telling-more : (r reach : ℕ) (out′ : List ℕ) → reach ≡ reaches pos e (slot ws i) → Lays k (tells pos e (slot ws i)) out r out′
         → Telling l e ws u out₀ (i + 1) reach r out′
     telling-more r reach out′ q y =
-        rw q (told-more total out₀ k r (tells pos e (slot ws i)) rest (between (reaches pos e (slot ws i)) e (slots ws (i + 1) (u - (i + 1)))) out out′ h next y)
+        rw q (told-more total out₀ k r (tells pos e (slot ws i)) rest (between (reaches pos e (slot ws i)) e (slotsFrom ws (i + 1) (u - (i + 1)))) out out′ h next y)

@@ -3,8 +3,8 @@ ghost use mathlib.Core.Path.{_≡_};
 ghost use Prim.Native.Nat.{_+_, _*_, _<_, _≤_};
 ghost use mathlib.Core.List.{[], _∷_};
 ghost use lib.ListN.{length};
-ghost use Rattle.rules.specs.Extents.{extent, flat, slot, slots};
-ghost use Rattle.rules.specs.Read.{hole};
+ghost use Rattle.rules.specs.Extents.{extent, flat, slot, slotsFrom};
+ghost use Rattle.rules.specs.Read.{withHole};
 ghost use Rattle.rules.specs.Calls.{over};
 ghost use Rattle.map.specs.Sound.{Sound, Piece};
 ghost use Rattle.reading.specs.Walk.{between, starts, tells};
@@ -26,8 +26,8 @@ fn put_piece(out: &mut [u32], k: usize, l: u32, p: u32, c: u32)
 
 // The hole from a up to b, where there is one. The slot after it is returned.
 fn put_hole(out: &mut [u32], k: usize, a: u32, b: u32) -> usize
-    requires { ⌜ 3 * (k + length (hole a b [])) ≤ length (now out) ⌝ }
-    ensures { λ r. ⌜ Lays k (hole a b []) (now (out .entry)) r (now (out .exit)) ⌝ }
+    requires { ⌜ 3 * (k + length (withHole a b [])) ≤ length (now out) ⌝ }
+    ensures { λ r. ⌜ Lays k (withHole a b []) (now (out .entry)) r (now (out .exit)) ⌝ }
 {
     if b <= a {
         return k;
@@ -61,9 +61,9 @@ fn put_slot(ext: &[u32], i: usize, pos: u32, e: u32, out: &mut [u32], k: usize) 
 
 // What a read of the logical pages from l up to e finds, in the first words of the answer buffer: how many pieces.
 pub fn list_found(ext: &[u32], used: usize, l: u32, e: u32, out: &mut [u32]) -> usize
-    requires { ⌜ (3 * used ≤ length (now ext)) × (l ≤ e) × Sound (slots (now ext) 0 used) ⌝ }
-    requires { ⌜ 3 * length (between l e (slots (now ext) 0 used)) ≤ length (now out) ⌝ }
-    ensures { λ r. ⌜ (r ≡ length (between l e (slots (now (ext .entry)) 0 used))) × (now (out .exit) ≡ over (flat (between l e (slots (now (ext .entry)) 0 used))) (now (out .entry))) ⌝ }
+    requires { ⌜ (3 * used ≤ length (now ext)) × (l ≤ e) × Sound (slotsFrom (now ext) 0 used) ⌝ }
+    requires { ⌜ 3 * length (between l e (slotsFrom (now ext) 0 used)) ≤ length (now out) ⌝ }
+    ensures { λ r. ⌜ (r ≡ length (between l e (slotsFrom (now (ext .entry)) 0 used))) × (now (out .exit) ≡ over (flat (between l e (slotsFrom (now (ext .entry)) 0 used))) (now (out .entry))) ⌝ }
 {
     let mut k: usize = 0;
     let mut pos = l;

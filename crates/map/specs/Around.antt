@@ -7,7 +7,7 @@ use native.Mathlib.Omega.{arith}
 use borrow.Author.Tests.{lt-ltb, le-ltb, eq-eqb}
 use lib.Dec.{ltb, eqb}
 use Rattle.rules.specs.Counting.{one}
-use Rattle.rules.specs.Extents.{none, extent, end, joinable, slot, slots}
+use Rattle.rules.specs.Extents.{none, extent, end, joinable, slot, slotsFrom}
 use Rattle.rules.specs.declared.Extent.{Extent}
 use Rattle.laws.specs.Bools.{never}
 use Rattle.laws.specs.Rows.{Rows}
@@ -18,31 +18,31 @@ use Rattle.laws.specs.Counts.{startsBefore, endsAfter, leftJoin, tally-start, s
 -- ---- a walk that has counted u slots
 
 module _ (l : ℕ) (ws : List ℕ) where
-  pub starts-start : 0 ≡ startsBefore l (slots ws 0 0)
+  pub starts-start : 0 ≡ startsBefore l (slotsFrom ws 0 0)
   starts-start = sym (tally-start (λ x. ltb (x .logical) l) ws)
 
-  pub ends-start : 0 ≡ endsAfter l (slots ws 0 0)
+  pub ends-start : 0 ≡ endsAfter l (slotsFrom ws 0 0)
   ends-start = sym (tally-start (λ x. ltb l (end x)) ws)
 
   -- k of u slots
-  pub starts-le : (u k : ℕ) → k ≡ startsBefore l (slots ws 0 u) → k ≤ u
-  starts-le u k h = omega (arith, tally-le (λ x. ltb (x .logical) l) (slots ws 0 u), slots-length ws 0 u)
+  pub starts-le : (u k : ℕ) → k ≡ startsBefore l (slotsFrom ws 0 u) → k ≤ u
+  starts-le u k h = omega (arith, tally-le (λ x. ltb (x .logical) l) (slotsFrom ws 0 u), slots-length ws 0 u)
 
-  pub ends-le : (u k : ℕ) → k ≡ endsAfter l (slots ws 0 u) → k ≤ u
-  ends-le u k h = omega (arith, tally-le (λ x. ltb l (end x)) (slots ws 0 u), slots-length ws 0 u)
+  pub ends-le : (u k : ℕ) → k ≡ endsAfter l (slotsFrom ws 0 u) → k ≤ u
+  ends-le u k h = omega (arith, tally-le (λ x. ltb l (end x)) (slotsFrom ws 0 u), slots-length ws 0 u)
 
   -- becoming j at one slot more
   module _ (u k j : ℕ) where
-    pub starts-in : k ≡ startsBefore l (slots ws 0 u) → slot ws u .logical < l → j ≡ k + 1 → j ≡ startsBefore l (slots ws 0 (u + 1))
+    pub starts-in : k ≡ startsBefore l (slotsFrom ws 0 u) → slot ws u .logical < l → j ≡ k + 1 → j ≡ startsBefore l (slotsFrom ws 0 (u + 1))
     starts-in h s e = omega (arith, starts-more l ws u, ap one (lt-ltb (slot ws u .logical) l s))
 
-    pub starts-out : k ≡ startsBefore l (slots ws 0 u) → l ≤ slot ws u .logical → j ≡ k → j ≡ startsBefore l (slots ws 0 (u + 1))
+    pub starts-out : k ≡ startsBefore l (slotsFrom ws 0 u) → l ≤ slot ws u .logical → j ≡ k → j ≡ startsBefore l (slotsFrom ws 0 (u + 1))
     starts-out h s e = omega (arith, starts-more l ws u, ap one (le-ltb (slot ws u .logical) l s))
 
-    pub ends-in : k ≡ endsAfter l (slots ws 0 u) → l < end (slot ws u) → j ≡ k + 1 → j ≡ endsAfter l (slots ws 0 (u + 1))
+    pub ends-in : k ≡ endsAfter l (slotsFrom ws 0 u) → l < end (slot ws u) → j ≡ k + 1 → j ≡ endsAfter l (slotsFrom ws 0 (u + 1))
     ends-in h s e = omega (arith, ends-more l ws u, ap one (lt-ltb l (end (slot ws u)) s))
 
-    pub ends-out : k ≡ endsAfter l (slots ws 0 u) → end (slot ws u) ≤ l → j ≡ k → j ≡ endsAfter l (slots ws 0 (u + 1))
+    pub ends-out : k ≡ endsAfter l (slotsFrom ws 0 u) → end (slot ws u) ≤ l → j ≡ k → j ≡ endsAfter l (slotsFrom ws 0 (u + 1))
     ends-out h s e = omega (arith, ends-more l ws u, ap one (le-ltb l (end (slot ws u)) s))
 
 -- ---- the last extent before a slot
@@ -53,14 +53,14 @@ joinsBefore n f zero ws = false
 joinsBefore n f (suc i) ws = joinable n (slot ws i) f
 
 -- it is the only one of all with which f can be joinable
-pub joins-before : (n hi : ℕ) (f : Extent) (ws : List ℕ) (u before : ℕ) → Rows n 0 none hi (slots ws 0 u) → before ≡ startsBefore (f .logical) (slots ws 0 u)
-    → one (joinsBefore n f before ws) ≡ leftJoin n f (slots ws 0 u)
+pub joins-before : (n hi : ℕ) (f : Extent) (ws : List ℕ) (u before : ℕ) → Rows n 0 none hi (slotsFrom ws 0 u) → before ≡ startsBefore (f .logical) (slotsFrom ws 0 u)
+    → one (joinsBefore n f before ws) ≡ leftJoin n f (slotsFrom ws 0 u)
 unfolding joinsBefore
-joins-before n hi f ws u zero h e = sym (left-none n hi (f .logical) f (slots ws 0 u) 0 none h refl (sym e))
+joins-before n hi f ws u zero h e = sym (left-none n hi (f .logical) f (slotsFrom ws 0 u) 0 none h refl (sym e))
 joins-before n hi f ws u (suc i) h e =
-    let most = tally-le (λ x. ltb (x .logical) (f .logical)) (slots ws 0 u) in
+    let most = tally-le (λ x. ltb (x .logical) (f .logical)) (slotsFrom ws 0 u) in
     let at = slots-at ws 0 u i i (slot ws 0) (omega (arith, slots-length ws 0 u)) (omega arith) in
-    sym (left-last n hi (f .logical) f (slots ws 0 u) 0 none i (slot ws 0) h refl (omega arith) ∙ ap (λ (x : Extent). one (joinable n x f)) at)
+    sym (left-last n hi (f .logical) f (slotsFrom ws 0 u) 0 none i (slot ws 0) h refl (omega arith) ∙ ap (λ (x : Extent). one (joinable n x f)) at)
 
 module _ (n l p before : ℕ) (ws : List ℕ) where
   last : 1 ≤ before → joinsBefore n (extent l p 1) before ws ≡ joinable n (slot ws (before - 1)) (extent l p 1)

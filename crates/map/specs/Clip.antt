@@ -11,7 +11,7 @@ use lib.Dec.{ltb}
 use lib.ListN.{length, getD, take, drop, set, length-set, length-append, length-drop}
 use lib.Seq.{take-set-le, drop-set-lt, drop-set-add, drop-cons, getD-set-same, getD-set-other, set-getD, set-out, set-append-left, take-set-lt, length-take-le}
 use Rattle.rules.specs.Counting.{one}
-use Rattle.rules.specs.Extents.{none, extent, end, slot, slots}
+use Rattle.rules.specs.Extents.{none, extent, end, slot, slotsFrom}
 use Rattle.rules.specs.declared.Extent.{Extent}
 use Rattle.laws.specs.Rows.{Rows}
 use Rattle.laws.specs.Sums.{one-le}
@@ -174,69 +174,69 @@ ends-at n hi e (x ∷ xs) lo q (suc z) h g s =
 -- ---- the same on the words that hold them
 
 module _ (ws : List ℕ) (u : ℕ) where
-  pub at-slot : (i : ℕ) → i < u → getD (slots ws 0 u) i blank ≡ slot ws i
+  pub at-slot : (i : ℕ) → i < u → getD (slotsFrom ws 0 u) i blank ≡ slot ws i
   at-slot i h = slots-at ws 0 u i i blank h (omega arith)
 
-  module _ (s : Sound (slots ws 0 u)) where
-    pub sound-starts : (l i : ℕ) → i < startsBefore l (slots ws 0 u) → slot ws i .logical < l
+  module _ (s : Sound (slotsFrom ws 0 u)) where
+    pub sound-starts : (l i : ℕ) → i < startsBefore l (slotsFrom ws 0 u) → slot ws i .logical < l
     sound-starts l i h =
-        let b = tally-le (λ y. ltb (y .logical) l) (slots ws 0 u) in
-        subst (λ (x : Extent). x .logical < l) (at-slot i (omega (arith, slots-length ws 0 u))) (starts-at (s .pages) (s .logical) l (slots ws 0 u) 0 none i (s .rows) h)
+        let b = tally-le (λ y. ltb (y .logical) l) (slotsFrom ws 0 u) in
+        subst (λ (x : Extent). x .logical < l) (at-slot i (omega (arith, slots-length ws 0 u))) (starts-at (s .pages) (s .logical) l (slotsFrom ws 0 u) 0 none i (s .rows) h)
 
-    pub sound-ends : (e z : ℕ) → z + endsAfter e (slots ws 0 u) ≡ u → z < u → e < end (slot ws z)
+    pub sound-ends : (e z : ℕ) → z + endsAfter e (slotsFrom ws 0 u) ≡ u → z < u → e < end (slot ws z)
     sound-ends e z g h =
         subst (λ (x : Extent). e < end x) (at-slot z h)
-        (ends-at (s .pages) (s .logical) e (slots ws 0 u) 0 none z (s .rows) (g ∙ sym (slots-length ws 0 u)) (omega (arith, slots-length ws 0 u)))
+        (ends-at (s .pages) (s .logical) e (slotsFrom ws 0 u) 0 none z (s .rows) (g ∙ sym (slots-length ws 0 u)) (omega (arith, slots-length ws 0 u)))
 
   -- the clips, as the code leaves them
   module _ (h : Holds ws u) where
-    pub right-none : (l a : ℕ) → a < 1 → ws ≡ padded (length ws) (clipRight l a (slots ws 0 u))
+    pub right-none : (l a : ℕ) → a < 1 → ws ≡ padded (length ws) (clipRight l a (slotsFrom ws 0 u))
     unfolding clipRight
     right-none l a s = let e : a ≡ 0 = omega arith in rw e (h .is)
 
-    pub right-same : (l a : ℕ) → 1 ≤ a → a ≤ u → end (slot ws (a - 1)) ≤ l → ws ≡ padded (length ws) (clipRight l a (slots ws 0 u))
+    pub right-same : (l a : ℕ) → 1 ≤ a → a ≤ u → end (slot ws (a - 1)) ≤ l → ws ≡ padded (length ws) (clipRight l a (slotsFrom ws 0 u))
     unfolding clipRight
     right-same l a s t b =
         let e : a ≡ suc (a - 1) = omega arith in
         let x = at-slot (a - 1) (omega arith) in
-        rw e (h .is ∙ ap (padded (length ws)) (sym (set-getD (slots ws 0 u) (a - 1) blank)
-        ∙ ap (set (slots ws 0 u) (a - 1)) (extent-path (getD (slots ws 0 u) (a - 1) blank) (upTo l (getD (slots ws 0 u) (a - 1) blank)) refl refl (rw x (omega arith)))))
+        rw e (h .is ∙ ap (padded (length ws)) (sym (set-getD (slotsFrom ws 0 u) (a - 1) blank)
+        ∙ ap (set (slotsFrom ws 0 u) (a - 1)) (extent-path (getD (slotsFrom ws 0 u) (a - 1) blank) (upTo l (getD (slotsFrom ws 0 u) (a - 1) blank)) refl refl (rw x (omega arith)))))
 
     pub right-set : (l a : ℕ) (ws′ : List ℕ) → 1 ≤ a → a ≤ u → slot ws (a - 1) .logical ≤ l → l < end (slot ws (a - 1))
-        → ws′ ≡ padded (length ws) (set (slots ws 0 u) (a - 1) (extent (slot ws (a - 1) .logical) (slot ws (a - 1) .physical) (l - slot ws (a - 1) .logical)))
-        → ws′ ≡ padded (length ws) (clipRight l a (slots ws 0 u))
+        → ws′ ≡ padded (length ws) (set (slotsFrom ws 0 u) (a - 1) (extent (slot ws (a - 1) .logical) (slot ws (a - 1) .physical) (l - slot ws (a - 1) .logical)))
+        → ws′ ≡ padded (length ws) (clipRight l a (slotsFrom ws 0 u))
     unfolding clipRight
     right-set l a ws′ s t b d g =
         let e : a ≡ suc (a - 1) = omega arith in
         let x = at-slot (a - 1) (omega arith) in
-        rw e (g ∙ ap (λ (y : Extent). padded (length ws) (set (slots ws 0 u) (a - 1) y))
+        rw e (g ∙ ap (λ (y : Extent). padded (length ws) (set (slotsFrom ws 0 u) (a - 1) y))
         (extent-path _ (upTo l (slot ws (a - 1))) refl refl (omega arith) ∙ ap (upTo l) (sym x)))
 
-    pub left-none : (e z : ℕ) → u ≤ z → ws ≡ padded (length ws) (clipLeft e z (slots ws 0 u))
+    pub left-none : (e z : ℕ) → u ≤ z → ws ≡ padded (length ws) (clipLeft e z (slotsFrom ws 0 u))
     unfolding clipLeft
-    left-none e z s = h .is ∙ ap (padded (length ws)) (sym (set-out (slots ws 0 u) z _ (omega (arith, slots-length ws 0 u))))
+    left-none e z s = h .is ∙ ap (padded (length ws)) (sym (set-out (slotsFrom ws 0 u) z _ (omega (arith, slots-length ws 0 u))))
 
-    pub left-same : (e z : ℕ) → z < u → e ≤ slot ws z .logical → ws ≡ padded (length ws) (clipLeft e z (slots ws 0 u))
+    pub left-same : (e z : ℕ) → z < u → e ≤ slot ws z .logical → ws ≡ padded (length ws) (clipLeft e z (slotsFrom ws 0 u))
     unfolding clipLeft
     left-same e z s b =
         let x = at-slot z s in
-        h .is ∙ ap (padded (length ws)) (sym (set-getD (slots ws 0 u) z blank)
-        ∙ ap (set (slots ws 0 u) z) (x ∙ extent-path (slot ws z) (onFrom e (slot ws z)) (omega arith) (omega arith) (omega arith) ∙ ap (onFrom e) (sym x)))
+        h .is ∙ ap (padded (length ws)) (sym (set-getD (slotsFrom ws 0 u) z blank)
+        ∙ ap (set (slotsFrom ws 0 u) z) (x ∙ extent-path (slot ws z) (onFrom e (slot ws z)) (omega arith) (omega arith) (omega arith) ∙ ap (onFrom e) (sym x)))
 
     pub left-set : (e z : ℕ) (ws′ : List ℕ) → z < u → slot ws z .logical < e
-        → ws′ ≡ padded (length ws) (set (slots ws 0 u) z (extent e (slot ws z .physical + (e - slot ws z .logical)) (slot ws z .count - (e - slot ws z .logical))))
-        → ws′ ≡ padded (length ws) (clipLeft e z (slots ws 0 u))
+        → ws′ ≡ padded (length ws) (set (slotsFrom ws 0 u) z (extent e (slot ws z .physical + (e - slot ws z .logical)) (slot ws z .count - (e - slot ws z .logical))))
+        → ws′ ≡ padded (length ws) (clipLeft e z (slotsFrom ws 0 u))
     unfolding clipLeft
     left-set e z ws′ s b g =
-        g ∙ ap (λ (y : Extent). padded (length ws) (set (slots ws 0 u) z y))
+        g ∙ ap (λ (y : Extent). padded (length ws) (set (slotsFrom ws 0 u) z y))
         (extent-path _ (onFrom e (slot ws z)) (omega arith) (omega arith) (omega arith) ∙ ap (onFrom e) (sym (at-slot z s)))
 
     -- the right part put in behind slot i
     module _ (l e i : ℕ) (f : 3 * u + 3 ≤ length ws) (t : i < u) (b : slot ws i .logical ≤ l) (d : l < e) (k : e < end (slot ws i)) (mid : List ℕ)
-        (g : mid ≡ padded (length ws) (take (i + 1) (slots ws 0 u)
-        ++ extent e (slot ws i .physical + (e - slot ws i .logical)) (slot ws i .count - (e - slot ws i .logical)) ∷ drop (i + 1) (slots ws 0 u))) where
+        (g : mid ≡ padded (length ws) (take (i + 1) (slotsFrom ws 0 u)
+        ++ extent e (slot ws i .physical + (e - slot ws i .logical)) (slot ws i .count - (e - slot ws i .logical)) ∷ drop (i + 1) (slotsFrom ws 0 u))) where
       abbrev es : List Extent
-      es = slots ws 0 u
+      es = slotsFrom ws 0 u
 
       abbrev right : Extent
       right = extent e (slot ws i .physical + (e - slot ws i .logical)) (slot ws i .count - (e - slot ws i .logical))
@@ -254,7 +254,7 @@ module _ (ws : List ℕ) (u : ℕ) where
       split-holds = became-holds (length ws) both mid (u + 1) g one-more (omega arith)
 
       -- and slot i clipped
-      pub split-set : (ws′ : List ℕ) → ws′ ≡ padded (length mid) (set (slots mid 0 (u + 1)) i (extent (slot ws i .logical) (slot ws i .physical) (l - slot ws i .logical)))
+      pub split-set : (ws′ : List ℕ) → ws′ ≡ padded (length mid) (set (slotsFrom mid 0 (u + 1)) i (extent (slot ws i .logical) (slot ws i .physical) (l - slot ws i .logical)))
           → ws′ ≡ padded (length ws) (splitAt l e i es)
       unfolding splitAt
       split-set ws′ q =

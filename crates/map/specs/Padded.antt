@@ -6,7 +6,7 @@ use native.Mathlib.Omega.{arith}
 use borrow.Rule.Slice.PartMut.{midOf, putMid}
 use lib.ListN.{length, getD, take, drop, set, replicate, length-append, length-drop, length-replicate, length-set, getD-replicate, take-append-drop, replicate-append-replicate}
 use lib.Seq.{sets, ext-getD, getD-drop, take-at, drop-at, drop-drop, take-append-add, drop-append-add, length-take-le}
-use Rattle.rules.specs.Extents.{extent, slots, flat}
+use Rattle.rules.specs.Extents.{extent, slotsFrom, flat}
 use Rattle.rules.specs.declared.Extent.{Extent}
 use Rattle.laws.specs.Slots.{flat-length, flat-append, flat-take, flat-drop, slots-flat, flat-slots, slots-length}
 
@@ -18,7 +18,7 @@ pub padded-length : (m : ℕ) (es : List Extent) → 3 * length es ≤ m → len
 unfolding padded
 padded-length m es h = simp (length-append, flat-length, length-replicate) (omega arith)
 
-pub padded-slots : (m : ℕ) (es : List Extent) → slots (padded m es) 0 (length es) ≡ es
+pub padded-slots : (m : ℕ) (es : List Extent) → slotsFrom (padded m es) 0 (length es) ≡ es
 unfolding padded
 padded-slots m es = slots-flat es (replicate (m - 3 * length es) 0)
 
@@ -26,7 +26,7 @@ padded-slots m es = slots-flat es (replicate (m - 3 * length es) 0)
 
 pub record Holds (ws : List ℕ) (u : ℕ) : Type 0 where
   pub fits : 3 * u ≤ length ws
-  pub is : ws ≡ padded (length ws) (slots ws 0 u)
+  pub is : ws ≡ padded (length ws) (slotsFrom ws 0 u)
 
 -- zeros stand behind them
 pub zeros-holds : (ws : List ℕ) (u : ℕ) → 3 * u ≤ length ws → ((k : ℕ) → 3 * u ≤ k → k < length ws → getD ws k 0 ≡ 0) → Holds ws u
@@ -46,8 +46,8 @@ module _ (m : ℕ) (es : List Extent) (ws : List ℕ) (u : ℕ) (e : ws ≡ padd
   pub became-length : length ws ≡ m
   became-length = ap length e ∙ padded-length m es (omega arith)
 
-  pub became-slots : slots ws 0 u ≡ es
-  became-slots = ap₂ (λ (w : List ℕ) (k : ℕ). slots w 0 k) e (sym n) ∙ padded-slots m es
+  pub became-slots : slotsFrom ws 0 u ≡ es
+  became-slots = ap₂ (λ (w : List ℕ) (k : ℕ). slotsFrom w 0 k) e (sym n) ∙ padded-slots m es
 
   pub became-holds : Holds ws u
   became-holds = record { fits = omega (arith, became-length); is = e ∙ ap₂ padded (sym became-length) (sym became-slots) }
@@ -69,10 +69,10 @@ flat-set (x ∷ xs) (suc i) k l p c z h e =
 
 -- as the code stores it
 pub holds-set : (ws : List ℕ) (u i l p c : ℕ) → Holds ws u → i < u
-    → set (set (set ws (3 * i) l) (3 * i + 1) p) (3 * i + 2) c ≡ padded (length ws) (set (slots ws 0 u) i (extent l p c))
+    → set (set (set ws (3 * i) l) (3 * i + 1) p) (3 * i + 2) c ≡ padded (length ws) (set (slotsFrom ws 0 u) i (extent l p c))
 unfolding padded
 holds-set ws u i l p c h s =
-    let es = slots ws 0 u in
+    let es = slotsFrom ws 0 u in
     let z : List ℕ = replicate (length ws - 3 * length es) 0 in
     let a : 3 * i + 1 ≡ suc (3 * i) = omega arith in
     let b : 3 * i + 2 ≡ suc (suc (3 * i)) = omega arith in
@@ -83,7 +83,7 @@ holds-set ws u i l p c h s =
 
 module _ (ws : List ℕ) (u : ℕ) (h : Holds ws u) where
   abbrev es : List Extent
-  es = slots ws 0 u
+  es = slotsFrom ws 0 u
 
   abbrev m : ℕ
   m = length ws

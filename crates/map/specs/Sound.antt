@@ -3,7 +3,7 @@ use Prim.Native.Nat.{ℕ, suc, _+_, _≤_, _<_}
 use mathlib.Core.Path.{_≡_}
 use mathlib.Core.List.{List}
 use native.Mathlib.Omega.{arith}
-use Rattle.rules.specs.Extents.{none, end, slot, slots}
+use Rattle.rules.specs.Extents.{none, end, slot, slotsFrom}
 use Rattle.rules.specs.declared.Extent.{Extent}
 use Rattle.laws.specs.Rows.{Rows}
 use Rattle.laws.specs.Ranked.{Ranked, rows-ranked}
@@ -18,7 +18,7 @@ pub record Piece (x : Extent) : Type 0 where
   pub some : 0 < x .count
   pub small : x .physical + x .count ≤ none
 
-module _ (ws : List ℕ) (u : ℕ) (s : Sound (slots ws 0 u)) where
+module _ (ws : List ℕ) (u : ℕ) (s : Sound (slotsFrom ws 0 u)) where
   ranked : Ranked (s .pages) (s .logical) ws u
   ranked = rows-ranked (s .pages) (s .logical) ws u (s .rows)
 

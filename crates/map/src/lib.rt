@@ -4,7 +4,7 @@ ghost use mathlib.Core.Path.{_≡_};
 ghost use Prim.Native.Nat.{_+_, _*_, _<_, _≤_, _^_};
 ghost use mathlib.Core.List.{_∷_, _++_};
 ghost use lib.ListN.{length, take, drop, set};
-ghost use Rattle.rules.specs.Extents.{extent, end, slot, slots};
+ghost use Rattle.rules.specs.Extents.{extent, end, slot, slotsFrom};
 ghost use Rattle.laws.specs.Counts.{startsBefore, endsAfter};
 ghost use Rattle.map.specs.Around.{joinsBefore};
 ghost use Rattle.map.specs.Padded.{padded, Holds};
@@ -26,7 +26,7 @@ pub struct Sides {
 // How many of the extents in use start before l, and how many end after e begins.
 pub fn around(ext: &[u32], used: usize, l: u32, e: u32) -> Sides
     requires { ⌜ 3 * used ≤ length (now ext) ⌝ }
-    ensures { λ r. ⌜ (r .before ≡ startsBefore l (slots (now (ext .entry)) 0 used)) × (r .after ≡ endsAfter e (slots (now (ext .entry)) 0 used)) ⌝ }
+    ensures { λ r. ⌜ (r .before ≡ startsBefore l (slotsFrom (now (ext .entry)) 0 used)) × (r .after ≡ endsAfter e (slotsFrom (now (ext .entry)) 0 used)) ⌝ }
 {
     let mut before: usize = 0;
     let mut after: usize = 0;
@@ -70,7 +70,7 @@ pub fn joins_left(ext: &[u32], before: usize, pages: u32, l: u32, p: u32) -> boo
 // Slot i becomes (l, p, c).
 pub fn put(ext: &mut [u32], used: usize, i: usize, l: u32, p: u32, c: u32)
     requires { ⌜ Holds (now ext) used × (i < used) ⌝ }
-    ensures { λ _. ⌜ now (ext .exit) ≡ padded (length (now (ext .entry))) (set (slots (now (ext .entry)) 0 used) i (extent l p c)) ⌝ }
+    ensures { λ _. ⌜ now (ext .exit) ≡ padded (length (now (ext .entry))) (set (slotsFrom (now (ext .entry)) 0 used) i (extent l p c)) ⌝ }
 {
     let at = 3 * i;
     ext[at] = l;
@@ -81,7 +81,7 @@ pub fn put(ext: &mut [u32], used: usize, i: usize, l: u32, p: u32, c: u32)
 // (l, p, c) comes in at slot i, and the slots from there on move up.
 pub fn insert(ext: &mut [u32], used: usize, i: usize, l: u32, p: u32, c: u32)
     requires { ⌜ Holds (now ext) used × (i ≤ used) × (3 * used + 3 ≤ length (now ext)) ⌝ }
-    ensures { λ _. ⌜ now (ext .exit) ≡ padded (length (now (ext .entry))) (take i (slots (now (ext .entry)) 0 used) ++ extent l p c ∷ drop i (slots (now (ext .entry)) 0 used)) ⌝ }
+    ensures { λ _. ⌜ now (ext .exit) ≡ padded (length (now (ext .entry))) (take i (slotsFrom (now (ext .entry)) 0 used) ++ extent l p c ∷ drop i (slotsFrom (now (ext .entry)) 0 used)) ⌝ }
 {
     let at = 3 * i;
     let top = 3 * used + 3;

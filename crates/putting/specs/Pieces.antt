@@ -8,7 +8,7 @@ use native.Mathlib.Omega.{arith}
 use lib.ListN.{length, getD, take, drop, set, length-append, length-set, length-drop, take-append-drop, List·getD-append}
 use lib.Seq.{take-at, drop-at, set-append-left, length-take-le}
 use Rattle.rules.specs.Counting.{one}
-use Rattle.rules.specs.Extents.{none, extent, lookup, joinable, slot, slots}
+use Rattle.rules.specs.Extents.{none, extent, lookup, joinable, slot, slotsFrom}
 use Rattle.rules.specs.declared.Extent.{Extent}
 use Rattle.laws.specs.Bools.{cases}
 use Rattle.laws.specs.Rows.{Rows, rows-le}
@@ -145,58 +145,58 @@ spliced-length i new es h =
 -- a loop that has put d of the pieces from s on in
 module _ (ws : List ℕ) (u i : ℕ) (new : List ℕ) (s : ℕ) (h : Holds ws u) (b : i ≤ u) where
   abbrev es : List Extent
-  es = slots ws 0 u
+  es = slotsFrom ws 0 u
 
   size : length es ≡ u
   size = slots-length ws 0 u
 
-  pub splice-start : ws ≡ padded (length ws) (spliced i (slots new s 0) es)
-  unfolding slots
+  pub splice-start : ws ≡ padded (length ws) (spliced i (slotsFrom new s 0) es)
+  unfolding slotsFrom
   splice-start = h .is ∙ ap (padded (length ws)) (spliced-none i es)
 
-  module _ (d : ℕ) (f : 3 * (u + d) ≤ length ws) (mid : List ℕ) (g : mid ≡ padded (length ws) (spliced i (slots new s d) es)) where
-    count : length (spliced i (slots new s d) es) ≡ u + d
-    count = spliced-length i (slots new s d) es (omega (arith, size)) ∙ omega (arith, size, slots-length new s d)
+  module _ (d : ℕ) (f : 3 * (u + d) ≤ length ws) (mid : List ℕ) (g : mid ≡ padded (length ws) (spliced i (slotsFrom new s d) es)) where
+    count : length (spliced i (slotsFrom new s d) es) ≡ u + d
+    count = spliced-length i (slotsFrom new s d) es (omega (arith, size)) ∙ omega (arith, size, slots-length new s d)
 
     pub splice-holds : Holds mid (u + d)
-    splice-holds = became-holds (length ws) (spliced i (slots new s d) es) mid (u + d) g count f
+    splice-holds = became-holds (length ws) (spliced i (slotsFrom new s d) es) mid (u + d) g count f
 
     pub splice-more : (ws′ : List ℕ)
-        → ws′ ≡ padded (length mid) (take (i + d) (slots mid 0 (u + d)) ++ slot new (s + d) ∷ drop (i + d) (slots mid 0 (u + d)))
-        → ws′ ≡ padded (length ws) (spliced i (slots new s (d + 1)) es)
+        → ws′ ≡ padded (length mid) (take (i + d) (slotsFrom mid 0 (u + d)) ++ slot new (s + d) ∷ drop (i + d) (slotsFrom mid 0 (u + d)))
+        → ws′ ≡ padded (length ws) (spliced i (slotsFrom new s (d + 1)) es)
     splice-more ws′ e =
-        e ∙ ap₂ padded (became-length (length ws) (spliced i (slots new s d) es) mid (u + d) g count f)
-        (splice-one i d (slot new (s + d)) (slots new s d) (slots mid 0 (u + d)) es (omega (arith, size)) (slots-length new s d)
-        (became-slots (length ws) (spliced i (slots new s d) es) mid (u + d) g count f)
+        e ∙ ap₂ padded (became-length (length ws) (spliced i (slotsFrom new s d) es) mid (u + d) g count f)
+        (splice-one i d (slot new (s + d)) (slotsFrom new s d) (slotsFrom mid 0 (u + d)) es (omega (arith, size)) (slots-length new s d)
+        (became-slots (length ws) (spliced i (slotsFrom new s d) es) mid (u + d) g count f)
         ∙ ap (λ (xs : List Extent). spliced i xs es) (sym (slots-more new s d (s + d) refl)))
 
-    pub splice-end : (k r : ℕ) → d ≡ k → r ≡ u + k → Becomes (length ws) (spliced i (slots new s k) es) mid r
-    splice-end k r p q = record { is = g ∙ ap (λ (j : ℕ). padded (length ws) (spliced i (slots new s j) es)) p; used = omega (arith, count, ap (λ (j : ℕ). length (spliced i (slots new s j) es)) p) }
+    pub splice-end : (k r : ℕ) → d ≡ k → r ≡ u + k → Becomes (length ws) (spliced i (slotsFrom new s k) es) mid r
+    splice-end k r p q = record { is = g ∙ ap (λ (j : ℕ). padded (length ws) (spliced i (slotsFrom new s j) es)) p; used = omega (arith, count, ap (λ (j : ℕ). length (spliced i (slotsFrom new s j) es)) p) }
 
 -- the extent before slot i with c pages more
 pub lengthened-set : (ws : List ℕ) (u i c : ℕ) (ws′ : List ℕ) → 1 ≤ i → i ≤ u
-    → ws′ ≡ padded (length ws) (set (slots ws 0 u) (i - 1) (extent (slot ws (i - 1) .logical) (slot ws (i - 1) .physical) (slot ws (i - 1) .count + c)))
-    → ws′ ≡ padded (length ws) (lengthened i c (slots ws 0 u))
+    → ws′ ≡ padded (length ws) (set (slotsFrom ws 0 u) (i - 1) (extent (slot ws (i - 1) .logical) (slot ws (i - 1) .physical) (slot ws (i - 1) .count + c)))
+    → ws′ ≡ padded (length ws) (lengthened i c (slotsFrom ws 0 u))
 unfolding lengthened
 lengthened-set ws u i c ws′ s t g =
     let e : i ≡ suc (i - 1) = omega arith in
-    rw e (g ∙ ap (λ (x : Extent). padded (length ws) (set (slots ws 0 u) (i - 1) (longer c x))) (sym (at-slot ws u (i - 1) (omega arith))))
+    rw e (g ∙ ap (λ (x : Extent). padded (length ws) (set (slotsFrom ws 0 u) (i - 1) (longer c x))) (sym (at-slot ws u (i - 1) (omega arith))))
 
-first-piece : (new : List ℕ) (k : ℕ) → 1 ≤ k → slots new 0 k ≡ slot new 0 ∷ slots new 1 (k - 1)
-unfolding slots
-first-piece new k h = let e : k ≡ suc (k - 1) = omega arith in ap (slots new 0) e
+first-piece : (new : List ℕ) (k : ℕ) → 1 ≤ k → slotsFrom new 0 k ≡ slot new 0 ∷ slotsFrom new 1 (k - 1)
+unfolding slotsFrom
+first-piece new k h = let e : k ≡ suc (k - 1) = omega arith in ap (slotsFrom new 0) e
 
 module _ (ws : List ℕ) (u before : ℕ) (joined : Bool) (new : List ℕ) (k : ℕ) (p : Puttable ws u before joined new k) where
   abbrev old : List Extent
-  old = slots ws 0 u
+  old = slotsFrom ws 0 u
 
   -- no piece is joined
   module _ (j : joined ≡ false) where
     pub apart-ready : Holds ws u × (before ≤ u) × (0 ≤ k) × (3 * k ≤ length new) × (3 * (u + (k - 0)) ≤ length ws)
     apart-ready = (p .held, p .within, omega arith, p .fits, omega (arith, p .room, ap one j))
 
-    pub apart-done : (ws′ : List ℕ) (r : ℕ) → Becomes (length ws) (spliced before (slots new 0 (k - 0)) old) ws′ r
-        → Becomes (length ws) (putIn before joined (slots new 0 k) old) ws′ r
+    pub apart-done : (ws′ : List ℕ) (r : ℕ) → Becomes (length ws) (spliced before (slotsFrom new 0 (k - 0)) old) ws′ r
+        → Becomes (length ws) (putIn before joined (slotsFrom new 0 k) old) ws′ r
     unfolding putIn
     apart-done ws′ r h = let e : k - 0 ≡ k = omega arith in rw (j, ← e) h
 
@@ -221,11 +221,11 @@ module _ (ws : List ℕ) (u before : ℕ) (joined : Bool) (new : List ℕ) (k : 
         omega (arith, p .some, p .room, ap one j, words),
       )
 
-      pub joined-done : (ws′ : List ℕ) (r : ℕ) → Becomes (length mid) (spliced before (slots new 1 (k - 1)) (slots mid 0 u)) ws′ r
-          → Becomes (length ws) (putIn before joined (slots new 0 k) old) ws′ r
+      pub joined-done : (ws′ : List ℕ) (r : ℕ) → Becomes (length mid) (spliced before (slotsFrom new 1 (k - 1)) (slotsFrom mid 0 u)) ws′ r
+          → Becomes (length ws) (putIn before joined (slotsFrom new 0 k) old) ws′ r
       unfolding putIn
       joined-done ws′ r h =
-          let e : spliced before (slots new 1 (k - 1)) (slots mid 0 u) ≡ putIn before joined (slots new 0 k) old =
-          ap (spliced before (slots new 1 (k - 1))) (became-slots (length ws) (lengthened before (slot new 0 .count) old) mid u g as-many (p .held .fits))
+          let e : spliced before (slotsFrom new 1 (k - 1)) (slotsFrom mid 0 u) ≡ putIn before joined (slotsFrom new 0 k) old =
+          ap (spliced before (slotsFrom new 1 (k - 1))) (became-slots (length ws) (lengthened before (slot new 0 .count) old) mid u g as-many (p .held .fits))
           ∙ sym (ap₂ (λ (b : Bool) (xs : List Extent). putIn before b xs old) j (first-piece new k (p .some))) in
           subst₂ (λ (m : ℕ) (xs : List Extent). Becomes m xs ws′ r) words e h

@@ -8,7 +8,7 @@ use native.Mathlib.Omega.{arith}
 use native.Mathlib.Decide.{decLt}
 use lib.ListN.{length, getD, List·getD-append}
 use Rattle.rules.specs.Counting.{one}
-use Rattle.rules.specs.Extents.{none, end, lookup, slot, slots}
+use Rattle.rules.specs.Extents.{none, end, lookup, slot, slotsFrom}
 use Rattle.rules.specs.declared.Extent.{Extent}
 use Rattle.laws.specs.Rows.{Rows, rows-le}
 use Rattle.laws.specs.Cut.{below, from, cut, below-rows}
@@ -30,7 +30,7 @@ module _ (n hi a b : ℕ) (f : Extent) (fs es : List Extent) (e : b ≤ hi) (w :
     (right : lookup es b ≡ tip none (f ∷ fs) → tip none (f ∷ fs) % n ≡ 0)
     (m u : ℕ) (ws : List ℕ) (c : Becomes m (cut a b es) ws u) (cuts : 3 * length (cut a b es) ≤ m)
     (i : ℕ) (joined : Bool) (s : i ≡ startsBefore a es) (j : one joined ≡ leftJoin n f es)
-    (new : List ℕ) (k : ℕ) (p : slots new 0 k ≡ f ∷ fs) (fits : 3 * k ≤ length new) where
+    (new : List ℕ) (k : ℕ) (p : slotsFrom new 0 k ≡ f ∷ fs) (fits : 3 * k ≤ length new) where
   held : length (cut a b es) ≡ u
   held = sym (c .used)
 
@@ -68,9 +68,9 @@ module _ (n hi a b : ℕ) (f : Extent) (fs es : List Extent) (e : b ≤ hi) (w :
         (some, omega (arith, short some, ap (λ (x : Extent). x .count) first, rows-le n b fs _ _ (w .1)));
   }
 
-  pub place-done : (ws′ : List ℕ) (r : ℕ) → Becomes (length ws) (putIn i joined (slots new 0 k) (slots ws 0 u)) ws′ r → Becomes m (place n a b (f ∷ fs) es) ws′ r
+  pub place-done : (ws′ : List ℕ) (r : ℕ) → Becomes (length ws) (putIn i joined (slotsFrom new 0 k) (slotsFrom ws 0 u)) ws′ r → Becomes m (place n a b (f ∷ fs) es) ws′ r
   place-done ws′ r g =
-      let same : putIn i joined (slots new 0 k) (slots ws 0 u) ≡ place n a b (f ∷ fs) es =
+      let same : putIn i joined (slotsFrom new 0 k) (slotsFrom ws 0 u) ≡ place n a b (f ∷ fs) es =
       ap₂ (λ (xs ys : List Extent). putIn i joined xs ys) p (became-slots m (cut a b es) ws u (c .is) held (omega arith))
       ∙ sym (place-put n hi a b f fs es e w h at left right i joined s j) in
       subst₂ (λ (q : ℕ) (xs : List Extent). Becomes q xs ws′ r) words same g

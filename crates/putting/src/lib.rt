@@ -2,14 +2,14 @@
 ghost use mathlib.Core.Path.{_≡_};
 ghost use Prim.Native.Nat.{_+_, _-_, _*_, _<_, _≤_, _^_};
 ghost use lib.ListN.{length};
-ghost use Rattle.rules.specs.Extents.{slot, slots};
+ghost use Rattle.rules.specs.Extents.{slot, slotsFrom};
 ghost use Rattle.map.specs.Padded.{padded, Holds, Becomes};
 ghost use Rattle.putting.specs.Pieces.{spliced, lengthened, putIn, Puttable};
 
 // The extent before slot i gets c pages more.
 fn lengthen(ext: &mut [u32], used: usize, i: usize, c: u32)
     requires { ⌜ Holds (now ext) used × (1 ≤ i) × (i ≤ used) × (slot (now ext) (i - 1) .count + c < 2 ^ 32) ⌝ }
-    ensures { λ _. ⌜ now (ext .exit) ≡ padded (length (now (ext .entry))) (lengthened i c (slots (now (ext .entry)) 0 used)) ⌝ }
+    ensures { λ _. ⌜ now (ext .exit) ≡ padded (length (now (ext .entry))) (lengthened i c (slotsFrom (now (ext .entry)) 0 used)) ⌝ }
 {
     let j = i - 1;
     let at = 3 * j;
@@ -22,7 +22,7 @@ fn lengthen(ext: &mut [u32], used: usize, i: usize, c: u32)
 // The pieces from s up to k come in at slot i. The slots then in use are returned.
 fn splice(ext: &mut [u32], used: usize, i: usize, new: &[u32], s: usize, k: usize) -> usize
     requires { ⌜ Holds (now ext) used × (i ≤ used) × (s ≤ k) × (3 * k ≤ length (now new)) × (3 * (used + (k - s)) ≤ length (now ext)) ⌝ }
-    ensures { λ r. ⌜ Becomes (length (now (ext .entry))) (spliced i (slots (now (new .entry)) s (k - s)) (slots (now (ext .entry)) 0 used)) (now (ext .exit)) r ⌝ }
+    ensures { λ r. ⌜ Becomes (length (now (ext .entry))) (spliced i (slotsFrom (now (new .entry)) s (k - s)) (slotsFrom (now (ext .entry)) 0 used)) (now (ext .exit)) r ⌝ }
 {
     let mut d: usize = 0;
     while d < k - s {
@@ -47,7 +47,7 @@ pub fn put_pieces(
     k: usize,
 ) -> usize
     requires { ⌜ Puttable (now ext) used before joined (now new) k ⌝ }
-    ensures { λ r. ⌜ Becomes (length (now (ext .entry))) (putIn before joined (slots (now (new .entry)) 0 k) (slots (now (ext .entry)) 0 used)) (now (ext .exit)) r ⌝ }
+    ensures { λ r. ⌜ Becomes (length (now (ext .entry))) (putIn before joined (slotsFrom (now (new .entry)) 0 k) (slotsFrom (now (ext .entry)) 0 used)) (now (ext .exit)) r ⌝ }
 {
     if joined {
         let c = new[2];

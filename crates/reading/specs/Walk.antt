@@ -10,8 +10,8 @@ use native.Mathlib.Decide.{decLt}
 use borrow.Author.Tests.{lt-ltb, le-ltb}
 use lib.Dec.{ltb}
 use lib.ListN.{length, length-append}
-use Rattle.rules.specs.Extents.{none, extent, end, slot, slots}
-use Rattle.rules.specs.Read.{hole, holes}
+use Rattle.rules.specs.Extents.{none, extent, end, slot, slotsFrom}
+use Rattle.rules.specs.Read.{withHole, withHoles}
 use Rattle.rules.specs.declared.Extent.{Extent}
 use Rattle.laws.specs.Bools.{cases}
 use Rattle.laws.specs.Unique.{extent-path}
@@ -20,7 +20,7 @@ use Rattle.map.specs.Sound.{Sound, sound-piece, sound-rises}
 
 -- the extents from logical page l up to e, each clipped, and each maximal hole
 abbrev pub between : ℕ → ℕ → List Extent → List Extent
-between l e es = holes l e (below e (from l es))
+between l e es = withHoles l e (below e (from l es))
 
 -- ---- one extent, where the answer has come to pos
 
@@ -37,20 +37,20 @@ clipped pos e x = extent (starts pos x) (x .physical + (starts pos x - x .logica
 
 -- its pieces: none where it ends before pos
 unfoldable pub tells : ℕ → ℕ → Extent → List Extent
-tells pos e x = cond (ltb pos (end x)) (hole pos (starts pos x) (clipped pos e x ∷ [])) []
+tells pos e x = cond (ltb pos (end x)) (withHole pos (starts pos x) (clipped pos e x ∷ [])) []
 
 -- ---- holes
 
-pub hole-append : (a b : ℕ) (xs ys : List Extent) → hole a b (xs ++ ys) ≡ hole a b xs ++ ys
-unfolding hole
+pub hole-append : (a b : ℕ) (xs ys : List Extent) → withHole a b (xs ++ ys) ≡ withHole a b xs ++ ys
+unfolding withHole
 hole-append a b xs ys = cases (ltb a b) (λ e. rw e) (λ e. rw e)
 
-pub no-hole : (a b : ℕ) (xs : List Extent) → b ≤ a → hole a b xs ≡ xs
-unfolding hole
+pub no-hole : (a b : ℕ) (xs : List Extent) → b ≤ a → withHole a b xs ≡ xs
+unfolding withHole
 no-hole a b xs h = rw (le-ltb a b h)
 
-pub some-hole : (a b : ℕ) (xs : List Extent) → a < b → hole a b xs ≡ extent a none (b - a) ∷ xs
-unfolding hole
+pub some-hole : (a b : ℕ) (xs : List Extent) → a < b → withHole a b xs ≡ extent a none (b - a) ∷ xs
+unfolding withHole
 some-hole a b xs h = rw (lt-ltb a b h)
 
 -- ---- the first extent of a list
@@ -66,22 +66,22 @@ below-from e (x ∷ xs) =
     (λ s. ap (below e) (from-none e x xs (omega arith)) ∙ below-from e xs)
 
 -- nothing is left where the answer has come to e, or the extent starts there
-pub between-end : (pos e : ℕ) (x : Extent) (xs : List Extent) → 0 < x .count → pos ≤ e → e ≤ starts pos x → between pos e (x ∷ xs) ≡ hole pos e []
-unfolding holes below
+pub between-end : (pos e : ℕ) (x : Extent) (xs : List Extent) → 0 < x .count → pos ≤ e → e ≤ starts pos x → between pos e (x ∷ xs) ≡ withHole pos e []
+unfolding withHoles below
 between-end pos e x xs c h s =
     by-cases (decLt pos e)
-    (λ t. ap (holes pos e) (ap (below e) (from-all pos x xs (omega arith) (omega arith)) ∙ below-none e x xs (omega arith)))
-    (λ t. let at : pos ≡ e = omega arith in ap (λ (k : ℕ). holes pos e (below e (from k (x ∷ xs)))) at ∙ ap (holes pos e) (below-from e (x ∷ xs)))
+    (λ t. ap (withHoles pos e) (ap (below e) (from-all pos x xs (omega arith) (omega arith)) ∙ below-none e x xs (omega arith)))
+    (λ t. let at : pos ≡ e = omega arith in ap (λ (k : ℕ). withHoles pos e (below e (from k (x ∷ xs)))) at ∙ ap (withHoles pos e) (below-from e (x ∷ xs)))
 
-pub between-none : (pos e : ℕ) → between pos e [] ≡ hole pos e []
-unfolding holes below from
+pub between-none : (pos e : ℕ) → between pos e [] ≡ withHole pos e []
+unfolding withHoles below from
 between-none pos e = refl
 
 pub tells-none : (pos e : ℕ) (x : Extent) → end x ≤ pos → tells pos e x ≡ []
 unfolding tells
 tells-none pos e x h = rw (le-ltb pos (end x) h)
 
-pub tells-some : (pos e : ℕ) (x : Extent) → pos < end x → tells pos e x ≡ hole pos (starts pos x) (clipped pos e x ∷ [])
+pub tells-some : (pos e : ℕ) (x : Extent) → pos < end x → tells pos e x ≡ withHole pos (starts pos x) (clipped pos e x ∷ [])
 unfolding tells
 tells-some pos e x h = rw (lt-ltb pos (end x) h)
 
@@ -103,10 +103,10 @@ tells-le pos e x =
     (λ s. omega (arith, tells-one pos e x h (omega arith))))
     (λ h. omega (arith, tells-zero pos e x (omega arith)))
 
-pub hole-one : (a b : ℕ) → a < b → 1 ≡ length (hole a b [])
+pub hole-one : (a b : ℕ) → a < b → 1 ≡ length (withHole a b [])
 hole-one a b h = sym (ap length (some-hole a b [] h))
 
-pub hole-zero : (a b : ℕ) → b ≤ a → 0 ≡ length (hole a b [])
+pub hole-zero : (a b : ℕ) → b ≤ a → 0 ≡ length (withHole a b [])
 hole-zero a b h = sym (ap length (no-hole a b [] h))
 
 -- its part from pos on
@@ -131,83 +131,83 @@ module _ (pos e : ℕ) (x : Extent) (xs : List Extent) (c : 0 < x .count) (p : p
       ∙ ap (λ (y : Extent). y ∷ below e xs) (extent-path (rest pos x) (clipped pos e x) (omega arith) (omega arith) (omega arith)))
 
   pub between-more : between pos e (x ∷ xs) ≡ tells pos e x ++ between (reaches pos e x) e xs
-  unfolding holes
+  unfolding withHoles
   between-more =
       by-cases (decLt pos (end x))
       (λ h. let stop : starts pos x + (reaches pos e x - starts pos x) ≡ reaches pos e x = omega arith in
-      ap (holes pos e) (ap (below e) (from-first h) ∙ below-first h)
-      ∙ ap (λ (k : ℕ). hole pos (starts pos x) (clipped pos e x ∷ holes k e (below e xs))) stop
-      ∙ ap (λ (ys : List Extent). hole pos (starts pos x) (clipped pos e x ∷ holes (reaches pos e x) e (below e ys))) (sym (keeps h))
+      ap (withHoles pos e) (ap (below e) (from-first h) ∙ below-first h)
+      ∙ ap (λ (k : ℕ). withHole pos (starts pos x) (clipped pos e x ∷ withHoles k e (below e xs))) stop
+      ∙ ap (λ (ys : List Extent). withHole pos (starts pos x) (clipped pos e x ∷ withHoles (reaches pos e x) e (below e ys))) (sym (keeps h))
       ∙ hole-append pos (starts pos x) (clipped pos e x ∷ []) (between (reaches pos e x) e xs)
       ∙ ap (λ (ys : List Extent). ys ++ between (reaches pos e x) e xs) (sym (tells-some pos e x h)))
       (λ h. let stop : pos ≡ reaches pos e x = omega arith in
-      ap (λ (ys : List Extent). holes pos e (below e ys)) (from-none pos x xs (omega arith))
+      ap (λ (ys : List Extent). withHoles pos e (below e ys)) (from-none pos x xs (omega arith))
       ∙ ap (λ (k : ℕ). between k e xs) stop
       ∙ ap (λ (ys : List Extent). ys ++ between (reaches pos e x) e xs) (sym (tells-none pos e x (omega arith))))
 
 -- ---- the walk, over slots
 
-pub slots-first : (ws : List ℕ) (i u : ℕ) → i < u → slots ws i (u - i) ≡ slot ws i ∷ slots ws (i + 1) (u - (i + 1))
-unfolding slots
+pub slots-first : (ws : List ℕ) (i u : ℕ) → i < u → slotsFrom ws i (u - i) ≡ slot ws i ∷ slotsFrom ws (i + 1) (u - (i + 1))
+unfolding slotsFrom
 slots-first ws i u h =
     let e : u - i ≡ suc (u - (i + 1)) = omega arith in
-    ap (slots ws i) e
+    ap (slotsFrom ws i) e
 
-from-slots : (t : ℕ) (ws : List ℕ) (j m : ℕ) → (0 < m → (t ≤ slot ws j .logical) × (0 < slot ws j .count)) → from t (slots ws j m) ≡ slots ws j m
-unfolding slots from
+from-slots : (t : ℕ) (ws : List ℕ) (j m : ℕ) → (0 < m → (t ≤ slot ws j .logical) × (0 < slot ws j .count)) → from t (slotsFrom ws j m) ≡ slotsFrom ws j m
+unfolding slotsFrom from
 from-slots t ws j zero h = refl
-from-slots t ws j (suc m) h = let f = h (omega arith) in from-all t (slot ws j) (slots ws (j + 1) m) (f .0) (omega arith)
+from-slots t ws j (suc m) h = let f = h (omega arith) in from-all t (slot ws j) (slotsFrom ws (j + 1) m) (f .0) (omega arith)
 
-below-slots : (e : ℕ) (ws : List ℕ) (j m : ℕ) → (0 < m → e ≤ slot ws j .logical) → below e (slots ws j m) ≡ []
-unfolding slots below
+below-slots : (e : ℕ) (ws : List ℕ) (j m : ℕ) → (0 < m → e ≤ slot ws j .logical) → below e (slotsFrom ws j m) ≡ []
+unfolding slotsFrom below
 below-slots e ws j zero h = refl
-below-slots e ws j (suc m) h = below-none e (slot ws j) (slots ws (j + 1) m) (h (omega arith))
+below-slots e ws j (suc m) h = below-none e (slot ws j) (slotsFrom ws (j + 1) m) (h (omega arith))
 
-module _ (ws : List ℕ) (u pos e i : ℕ) (sound : Sound (slots ws 0 u)) (h : i < u) (p : pos ≤ e) where
+module _ (ws : List ℕ) (u pos e i : ℕ) (sound : Sound (slotsFrom ws 0 u)) (h : i < u) (p : pos ≤ e) where
   some : (j : ℕ) → j < u → 0 < slot ws j .count
   some j q = sound-piece ws u sound j q .some
 
   -- slot i is the first that is left
-  pub walk-end : e ≤ starts pos (slot ws i) → between pos e (slots ws i (u - i)) ≡ hole pos e []
+  pub walk-end : e ≤ starts pos (slot ws i) → between pos e (slotsFrom ws i (u - i)) ≡ withHole pos e []
   walk-end s =
       ap (between pos e) (slots-first ws i u h)
-      ∙ between-end pos e (slot ws i) (slots ws (i + 1) (u - (i + 1))) (some i h) p s
+      ∙ between-end pos e (slot ws i) (slotsFrom ws (i + 1) (u - (i + 1))) (some i h) p s
 
   pub walk-more : starts pos (slot ws i) < e
-      → between pos e (slots ws i (u - i)) ≡ tells pos e (slot ws i) ++ between (reaches pos e (slot ws i)) e (slots ws (i + 1) (u - (i + 1)))
+      → between pos e (slotsFrom ws i (u - i)) ≡ tells pos e (slot ws i) ++ between (reaches pos e (slot ws i)) e (slotsFrom ws (i + 1) (u - (i + 1)))
   walk-more s =
       ap (between pos e) (slots-first ws i u h)
-      ∙ between-more pos e (slot ws i) (slots ws (i + 1) (u - (i + 1))) (some i h) p s
+      ∙ between-more pos e (slot ws i) (slotsFrom ws (i + 1) (u - (i + 1))) (some i h) p s
       (λ t. from-slots (reaches pos e (slot ws i)) ws (i + 1) (u - (i + 1))
       (λ m. (omega (arith, sound-rises ws u sound i (i + 1) refl (omega arith), some i h), some (i + 1) (omega arith))))
       (λ t. below-slots e ws (i + 1) (u - (i + 1)) (λ m. omega (arith, sound-rises ws u sound i (i + 1) refl (omega arith))))
 
 -- no slot is left
-pub walk-over : (ws : List ℕ) (u pos e i : ℕ) → i ≡ u → between pos e (slots ws i (u - i)) ≡ hole pos e []
-unfolding slots
+pub walk-over : (ws : List ℕ) (u pos e i : ℕ) → i ≡ u → between pos e (slotsFrom ws i (u - i)) ≡ withHole pos e []
+unfolding slotsFrom
 walk-over ws u pos e i h =
     let z : u - i ≡ 0 = omega arith in
-    ap (λ (m : ℕ). between pos e (slots ws i m)) z ∙ between-none pos e
+    ap (λ (m : ℕ). between pos e (slotsFrom ws i m)) z ∙ between-none pos e
 
-pub walk-start : (l e : ℕ) (ws : List ℕ) (u : ℕ) → between l e (slots ws 0 u) ≡ between l e (slots ws 0 (u - 0))
-walk-start l e ws u = let z : u ≡ u - 0 = omega arith in ap (λ (m : ℕ). between l e (slots ws 0 m)) z
+pub walk-start : (l e : ℕ) (ws : List ℕ) (u : ℕ) → between l e (slotsFrom ws 0 u) ≡ between l e (slotsFrom ws 0 (u - 0))
+walk-start l e ws u = let z : u ≡ u - 0 = omega arith in ap (λ (m : ℕ). between l e (slotsFrom ws 0 m)) z
 
 -- ---- how many pieces it finds: k so far
 
-pub count-start : (l e : ℕ) (ws : List ℕ) (u : ℕ) → length (between l e (slots ws 0 u)) ≡ 0 + length (between l e (slots ws 0 (u - 0)))
+pub count-start : (l e : ℕ) (ws : List ℕ) (u : ℕ) → length (between l e (slotsFrom ws 0 u)) ≡ 0 + length (between l e (slotsFrom ws 0 (u - 0)))
 count-start l e ws u = ap length (walk-start l e ws u) ∙ omega arith
 
-pub count-more : (ws : List ℕ) (u pos e i k j total : ℕ) → Sound (slots ws 0 u) → i < u → pos ≤ e → starts pos (slot ws i) < e
-    → total ≡ k + length (between pos e (slots ws i (u - i))) → j ≡ length (tells pos e (slot ws i))
-    → total ≡ k + j + length (between (reaches pos e (slot ws i)) e (slots ws (i + 1) (u - (i + 1))))
+pub count-more : (ws : List ℕ) (u pos e i k j total : ℕ) → Sound (slotsFrom ws 0 u) → i < u → pos ≤ e → starts pos (slot ws i) < e
+    → total ≡ k + length (between pos e (slotsFrom ws i (u - i))) → j ≡ length (tells pos e (slot ws i))
+    → total ≡ k + j + length (between (reaches pos e (slot ws i)) e (slotsFrom ws (i + 1) (u - (i + 1))))
 count-more ws u pos e i k j total sound h p s t g =
-    let rest = between (reaches pos e (slot ws i)) e (slots ws (i + 1) (u - (i + 1))) in
+    let rest = between (reaches pos e (slot ws i)) e (slotsFrom ws (i + 1) (u - (i + 1))) in
     omega (arith, ap length (walk-more ws u pos e i sound h p s), length-append (tells pos e (slot ws i)) rest)
 
 -- the last hole: no slot is left, or the next starts at e or later
-pub count-end : (ws : List ℕ) (u pos e i k j total : ℕ) → between pos e (slots ws i (u - i)) ≡ hole pos e []
-    → total ≡ k + length (between pos e (slots ws i (u - i))) → j ≡ length (hole pos e []) → k + j ≡ total
+pub count-end : (ws : List ℕ) (u pos e i k j total : ℕ) → between pos e (slotsFrom ws i (u - i)) ≡ withHole pos e []
+    → total ≡ k + length (between pos e (slotsFrom ws i (u - i))) → j ≡ length (withHole pos e []) → k + j ≡ total
 count-end ws u pos e i k j total w t g = omega (arith, ap length w)
 
-pub hole-le : (a b : ℕ) → length (hole a b []) ≤ 1
+pub hole-le : (a b : ℕ) → length (withHole a b []) ≤ 1
 hole-le a b = by-cases (decLt a b) (λ h. omega (arith, hole-one a b h)) (λ h. omega (arith, hole-zero a b (omega arith)))

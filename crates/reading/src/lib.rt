@@ -3,8 +3,8 @@ ghost use mathlib.Core.Path.{_≡_};
 ghost use Prim.Native.Nat.{_+_, _*_, _<_, _≤_};
 ghost use mathlib.Core.List.{[]};
 ghost use lib.ListN.{length};
-ghost use Rattle.rules.specs.Extents.{slot, slots};
-ghost use Rattle.rules.specs.Read.{hole};
+ghost use Rattle.rules.specs.Extents.{slot, slotsFrom};
+ghost use Rattle.rules.specs.Read.{withHole};
 ghost use Rattle.map.specs.Sound.{Sound};
 ghost use Rattle.reading.specs.Walk.{between, starts, reaches, tells};
 
@@ -52,7 +52,7 @@ fn pieces_of(ext: &[u32], i: usize, pos: u32, e: u32) -> usize
 
 // The last hole, where there is one.
 fn last_hole(pos: u32, e: u32) -> usize
-    ensures { λ r. ⌜ r ≡ length (hole pos e []) ⌝ }
+    ensures { λ r. ⌜ r ≡ length (withHole pos e []) ⌝ }
 {
     if pos < e {
         return 1;
@@ -62,8 +62,8 @@ fn last_hole(pos: u32, e: u32) -> usize
 
 // How many pieces a read of the logical pages from l up to e finds.
 pub fn count_found(ext: &[u32], used: usize, l: u32, e: u32) -> usize
-    requires { ⌜ (3 * used ≤ length (now ext)) × (l ≤ e) × Sound (slots (now ext) 0 used) ⌝ }
-    ensures { λ r. ⌜ r ≡ length (between l e (slots (now (ext .entry)) 0 used)) ⌝ }
+    requires { ⌜ (3 * used ≤ length (now ext)) × (l ≤ e) × Sound (slotsFrom (now ext) 0 used) ⌝ }
+    ensures { λ r. ⌜ r ≡ length (between l e (slotsFrom (now (ext .entry)) 0 used)) ⌝ }
 {
     let mut count: usize = 0;
     let mut pos = l;

@@ -43,39 +43,39 @@ pub record Walkable (h : Head) (ext : List ℕ) : Type 0 where
   pub inside : (i : ℕ) → i < h .used → slot ext i .physical % h .pages + slot ext i .count ≤ h .pages
 
 module _ (s : Lent) (h : Shaped s) (z : Sane s) where
-  pub sane-walkable : Walkable (s .head) (s .extents)
+  pub sane-walkable : Walkable (s .head) (s .extentWords)
   sane-walkable = record {
     slots = omega (arith, h .extents, z .few);
     some = h .sizes .n-low;
     few = h .sizes .n-high;
     room = omega (arith, block-le (s .head .pages) (s .head .reserve) (s .head .blocks) (z .kept), pages-fit (h .sizes));
-    inside = rows-inside (s .head .pages) (s .head .logical) (s .extents) (s .head .used) (z .rows);
+    inside = rows-inside (s .head .pages) (s .head .logical) (s .extentWords) (s .head .used) (z .rows);
   }
 
   -- what the search for the victim asks of the block records
-  pub sane-records : (stride * s .head .blocks ≤ length (s .blocks)) × ((b : ℕ) → b < s .head .blocks → validWord (s .blocks) b ≤ fillWord (s .blocks) b)
+  pub sane-records : (stride * s .head .blocks ≤ length (s .blockWords)) × ((b : ℕ) → b < s .head .blocks → validWord (s .blockWords) b ≤ fillWord (s .blockWords) b)
   sane-records = (omega (arith, h .blocks), sane-filled s h z .valid)
 
-  pub found-victim : most (s .head .blocks) (staleWord (s .blocks)) ≡ victim (deviceOf s)
+  pub found-victim : most (s .head .blocks) (staleWord (s .blockWords)) ≡ victim (deviceOf s)
   found-victim =
       let inside : (b : ℕ) → b < blocks (deviceOf s) → b < s .head .blocks = λ b p. omega (arith, device-blocks s) in
-      ap (λ (k : ℕ). most k (staleWord (s .blocks))) (sym (device-blocks s))
-      ∙ victim-words (deviceOf s) (sane-good s h z .sound) (s .blocks) (λ b p. sym (device-fill s b (inside b p))) (λ b p. sym (valid-in-use s h z b (inside b p)))
+      ap (λ (k : ℕ). most k (staleWord (s .blockWords))) (sym (device-blocks s))
+      ∙ victim-words (deviceOf s) (sane-good s h z .sound) (s .blockWords) (λ b p. sym (device-fill s b (inside b p))) (λ b p. sym (valid-in-use s h z b (inside b p)))
 
-  module _ (v : ℕ) (f : v ≡ most (s .head .blocks) (staleWord (s .blocks))) where
+  module _ (v : ℕ) (f : v ≡ most (s .head .blocks) (staleWord (s .blockWords))) where
     victim-is : v ≡ victim (deviceOf s)
     victim-is = f ∙ found-victim
 
     victim-inside : v < s .head .blocks
-    victim-inside = omega (arith, f, most-lt (s .head .blocks) (staleWord (s .blocks)) (omega (arith, z .kept)))
+    victim-inside = omega (arith, f, most-lt (s .head .blocks) (staleWord (s .blockWords)) (omega (arith, z .kept)))
 
-    pub victim-record : (stride * v + 1 < length (s .blocks)) × (validWord (s .blocks) v ≤ fillWord (s .blocks) v)
+    pub victim-record : (stride * v + 1 < length (s .blockWords)) × (validWord (s .blockWords) v ≤ fillWord (s .blockWords) v)
     victim-record = (omega (arith, victim-inside, h .blocks), sane-filled s h z .valid v victim-inside)
 
     -- 8: the victim has no stale page
-    is-nothing : (i : ℕ) → i ≡ staleWord (s .blocks) v → not (ltb 0 i) ≡ eqb (stale (deviceOf s)) 0
+    is-nothing : (i : ℕ) → i ≡ staleWord (s .blockWords) v → not (ltb 0 i) ≡ eqb (stale (deviceOf s)) 0
     is-nothing i e =
-        let w = staleWord (s .blocks) in
+        let w = staleWord (s .blockWords) in
         let n = s .head .blocks in
         let all = device-stale s h z in
         by-cases (decLt 0 i)
@@ -106,7 +106,7 @@ module _ (s : Lent) (h : Shaped s) (z : Sane s) where
     many = refl
 
     -- by three tests, of which the second is made where the first is passed
-    pub reclaim-first : (room i j : ℕ) (u : Bool) (a b c : Verdict) → i ≡ staleWord (s .blocks) v → j ≡ validWord (s .blocks) v
+    pub reclaim-first : (room i j : ℕ) (u : Bool) (a b c : Verdict) → i ≡ staleWord (s .blockWords) v → j ≡ validWord (s .blockWords) v
         → (ltb 0 i ≡ true → u ≡ leb (length (remapped (s .head .pages) v (s .head .reserve) (inUse s))) (s .head .slots))
         → told a ≡ refuse (not (ltb 0 i)) Refusal.NothingStale 0 → told b ≡ refuse (not u) Refusal.NoNodes 0
         → told c ≡ refuse (not (leb j room)) Refusal.OutShort 0 → firstOf a (firstOf b (told c)) ≡ reclaimRefusal (roomed room) (deviceOf s)

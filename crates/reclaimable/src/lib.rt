@@ -4,7 +4,7 @@ use rules::Refusal;
 use verdicts::Verdict;
 ghost use mathlib.Core.Path.{_≡_};
 ghost use lib.ListN.{length};
-ghost use Rattle.rules.specs.Extents.{slots};
+ghost use Rattle.rules.specs.Extents.{slotsFrom};
 ghost use Rattle.rules.specs.Lent.{lent};
 ghost use Rattle.rules.specs.Device.{deviceOf};
 ghost use Rattle.rules.specs.Calls.{reclaimRefusal};
@@ -16,7 +16,7 @@ ghost use Rattle.reclaimable.specs.Reclaiming.{Walkable};
 // How many extents the map has after block v is emptied into the reserve.
 pub fn nodes_after_reclaim(h: Head, ext: &[u32], v: u32) -> usize
     requires { ⌜ Walkable h (now ext) ⌝ }
-    ensures { λ k. ⌜ k ≡ length (remapped (h .pages) v (h .reserve) (slots (now (ext .entry)) 0 (h .used))) ⌝ }
+    ensures { λ k. ⌜ k ≡ length (remapped (h .pages) v (h .reserve) (slotsFrom (now (ext .entry)) 0 (h .used))) ⌝ }
 {
     let used = h.used as usize;
     let ranks = choosing::ranks_of(ext, used, h.pages, v);

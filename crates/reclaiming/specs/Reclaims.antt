@@ -11,7 +11,7 @@ use lib.Dec.{ltb}
 use lib.ListN.{length, getD, take, drop, replicate, List·getD-append}
 use lib.Seq.{ext-getD, take-append-seam}
 use Rattle.rules.specs.Counting.{count, most, tabulate}
-use Rattle.rules.specs.Extents.{none, extent, end, lookup, slot, slots, flat}
+use Rattle.rules.specs.Extents.{none, extent, end, lookup, slot, slotsFrom, flat}
 use Rattle.rules.specs.Blocks.{stride, fillWord, validWord, records}
 use Rattle.rules.specs.Calls.{over}
 use Rattle.rules.specs.Device.{Device, blocks, lines, at, fill, named, valid, staleIn, extents, wordsOf}
@@ -98,17 +98,17 @@ tabulate-same fs =
     (λ i h. getD-tabulate (length fs) (λ j. getD fs j 0) i 0 (omega (arith, length-tabulate (length fs) (λ j. getD fs j 0))))
 
 -- extents laid into the slots of a device are its words
-pub laid-words : (d : Device) → laid (extents d) (3 * d .slots) ≡ wordsOf d .extents
+pub laid-words : (d : Device) → laid (extents d) (3 * d .slots) ≡ wordsOf d .extentWords
 unfolding laid wordsOf
 laid-words d =
     let e : 3 * d .slots - 3 * length (extents d) ≡ 3 * (d .slots - length (extents d)) = omega arith in
     ap (λ (k : ℕ). flat (extents d) ++ replicate k 0) e
 
 -- rules 1 and 2 give what the two passes over the slots require
-pub rows-ends : (n hi : ℕ) (ws : List ℕ) (u : ℕ) → hi ≤ none → Rows n 0 none hi (slots ws 0 u) → Ends ws u
+pub rows-ends : (n hi : ℕ) (ws : List ℕ) (u : ℕ) → hi ≤ none → Rows n 0 none hi (slotsFrom ws 0 u) → Ends ws u
 rows-ends n hi ws u h r i t = omega (arith, rows-ranked n hi ws u r .high i t)
 
-pub rows-inside : (n hi : ℕ) (ws : List ℕ) (u : ℕ) → Rows n 0 none hi (slots ws 0 u) → (i : ℕ) → i < u → slot ws i .physical % n + slot ws i .count ≤ n
+pub rows-inside : (n hi : ℕ) (ws : List ℕ) (u : ℕ) → Rows n 0 none hi (slotsFrom ws 0 u) → (i : ℕ) → i < u → slot ws i .physical % n + slot ws i .count ≤ n
 rows-inside n hi ws u r i t = rows-ranked n hi ws u r .inside i t
 
 module _ (d : Device) (s : Sound d) where

@@ -11,7 +11,7 @@ use lib.Dec.{ltb}
 use lib.ListN.{length, getD, set, replicate, length-map, length-drop, length-set}
 use lib.Seq.{getD-set-same, getD-set-other}
 use Rattle.rules.specs.Counting.{one, count}
-use Rattle.rules.specs.Extents.{none, extent, end, joinable, slot, slots, flat}
+use Rattle.rules.specs.Extents.{none, extent, end, joinable, slot, slotsFrom, flat}
 use Rattle.rules.specs.declared.Extent.{Extent}
 use Rattle.laws.specs.Bools.{and-split}
 use Rattle.laws.specs.Sums.{count-same}
@@ -37,8 +37,8 @@ pub slot-same : (ws ws′ : List ℕ) (i : ℕ) → ((k : ℕ) → 3 * i ≤ k �
 slot-same ws ws′ i h =
     extent-path (slot ws i) (slot ws′ i) (h (3 * i) (omega arith) (omega arith)) (h (3 * i + 1) (omega arith) (omega arith)) (h (3 * i + 2) (omega arith) (omega arith))
 
-pub slots-same : (ws ws′ : List ℕ) (i u : ℕ) → ((k : ℕ) → 3 * i ≤ k → k < 3 * (i + u) → getD ws k 0 ≡ getD ws′ k 0) → slots ws i u ≡ slots ws′ i u
-unfolding slots
+pub slots-same : (ws ws′ : List ℕ) (i u : ℕ) → ((k : ℕ) → 3 * i ≤ k → k < 3 * (i + u) → getD ws k 0 ≡ getD ws′ k 0) → slotsFrom ws i u ≡ slotsFrom ws′ i u
+unfolding slotsFrom
 slots-same ws ws′ i zero h = refl
 slots-same ws ws′ i (suc u) h =
     ap₂ (λ (e : Extent) (es : List Extent). e ∷ es)
@@ -47,9 +47,9 @@ slots-same ws ws′ i (suc u) h =
 
 -- ---- how many extents once each slot's page has moved
 
-pub slots-move : (ws : List ℕ) (u : ℕ) (g : ℕ → ℕ) (i : ℕ) (z : Extent) → i < u → getD (map (move g) (slots ws 0 u)) i z ≡ move g (slot ws i)
+pub slots-move : (ws : List ℕ) (u : ℕ) (g : ℕ → ℕ) (i : ℕ) (z : Extent) → i < u → getD (map (move g) (slotsFrom ws 0 u)) i z ≡ move g (slot ws i)
 slots-move ws u g i z h =
-    map-at z (move g) (slots ws 0 u) i z (omega (arith, slots-length ws 0 u)) ∙ ap (move g) (slots-at ws 0 u i i z h (omega arith))
+    map-at z (move g) (slotsFrom ws 0 u) i z (omega (arith, slots-length ws 0 u)) ∙ ap (move g) (slots-at ws 0 u i i z h (omega arith))
 
 -- slot j is joinable with the next once their pages have moved
 abbrev pub joinsAfter : ℕ → List ℕ → ℕ → ℕ → List ℕ → ℕ → Bool
@@ -65,11 +65,11 @@ count-next t i b e = rw (add-one i, e)
 
 joined-count : (ws : List ℕ) (u n : ℕ) (g : ℕ → ℕ) (k i : ℕ) → i ≡ u - 1
     → k + count i (λ j. joinable n (move g (slot ws j)) (move g (slot ws (j + 1)))) ≡ u
-    → k ≡ length (norm n (map (move g) (slots ws 0 u)))
+    → k ≡ length (norm n (map (move g) (slotsFrom ws 0 u)))
 joined-count ws u n g k i e h =
     let z = extent 0 0 0 in
-    let es = map (move g) (slots ws 0 u) in
-    let l : length (map (move g) (slots ws 0 u)) ≡ u = length-map (slots ws 0 u) (move g) ∙ slots-length ws 0 u in
+    let es = map (move g) (slotsFrom ws 0 u) in
+    let l : length (map (move g) (slotsFrom ws 0 u)) ≡ u = length-map (slotsFrom ws 0 u) (move g) ∙ slots-length ws 0 u in
     omega (
       arith,
       norm-count n z es i (omega arith),
@@ -78,19 +78,19 @@ joined-count ws u n g k i e h =
           ap₂ (joinable n) (slots-move ws u g j z (omega arith)) (slots-move ws u g (suc j) z (omega arith) ∙ ap (λ (x : ℕ). move g (slot ws x)) next)),
     )
 
-pub remapped-count : (ws : List ℕ) (u n : ℕ) (ranks : List ℕ) (v r k i : ℕ) → 0 < n → Ranks n (covered (slots ws 0 u) n v) ranks → i ≡ u - 1
+pub remapped-count : (ws : List ℕ) (u n : ℕ) (ranks : List ℕ) (v r k i : ℕ) → 0 < n → Ranks n (covered (slotsFrom ws 0 u) n v) ranks → i ≡ u - 1
     → k + count i (joinsAfter n ranks v r ws) ≡ u
-    → k ≡ length (remapped n v r (slots ws 0 u))
+    → k ≡ length (remapped n v r (slotsFrom ws 0 u))
 unfolding remapped
 remapped-count ws u n ranks v r k i z h e c =
     joined-count ws u n (place n ranks v r) k i e c
-    ∙ ap (λ (es : List Extent). length (norm n es)) (places-moved n ranks v r (covered (slots ws 0 u) n v) (slots ws 0 u) z h)
+    ∙ ap (λ (es : List Extent). length (norm n es)) (places-moved n ranks v r (covered (slotsFrom ws 0 u) n v) (slotsFrom ws 0 u) z h)
 
 -- ---- slots pushed from the left
 
 -- extent x pushed behind the first w slots: k slots stand then
 pub record Pushed (n : ℕ) (ws : List ℕ) (w : ℕ) (x : Extent) (ws′ : List ℕ) (k : ℕ) : Type 0 where
-  pub done : slots ws′ 0 k ≡ push n (slots ws 0 w) x
+  pub done : slotsFrom ws′ 0 k ≡ push n (slotsFrom ws 0 w) x
   pub rest : (j : ℕ) → 3 * (w + 1) ≤ j → getD ws′ j 0 ≡ getD ws j 0
   pub few : k ≤ w + 1
 
@@ -128,13 +128,13 @@ pushed-joined n ws w x l t =
     let back : w ≡ j + 1 = omega (arith, last .some) in
     let other : (k : ℕ) → (k ≡ 3 * j + 2 → ⊥) → getD ws′ k 0 ≡ getD ws k 0 = λ k f. getD-set-other ws (3 * j + 2) k (a .count + x .count) 0 f in
     record {
-      done = ap (slots ws′ 0) back ∙ slots-more ws′ 0 j j (omega arith)
+      done = ap (slotsFrom ws′ 0) back ∙ slots-more ws′ 0 j j (omega arith)
           ∙ ap₂ (λ (es : List Extent) (y : Extent). es ++ y ∷ [])
           (slots-same ws′ ws 0 j (λ k p q. other k (omega arith)))
           (extent-path (slot ws′ j) (extent (a .logical) (a .physical) (a .count + x .count))
           (other (3 * j) (omega arith)) (other (3 * j + 1) (omega arith)) (getD-set-same ws (3 * j + 2) (a .count + x .count) 0 (omega (arith, last .some))))
-          ∙ sym (ap (λ (es : List Extent). push n es x) (ap (slots ws 0) back ∙ slots-more ws 0 j j (omega arith)) ∙ push-last n (slots ws 0 j) a x
-          ∙ ap (λ (es : List Extent). slots ws 0 j ++ es) (join-joined n a x [] (last .meets)));
+          ∙ sym (ap (λ (es : List Extent). push n es x) (ap (slotsFrom ws 0) back ∙ slots-more ws 0 j j (omega arith)) ∙ push-last n (slotsFrom ws 0 j) a x
+          ∙ ap (λ (es : List Extent). slotsFrom ws 0 j ++ es) (join-joined n a x [] (last .meets)));
       rest = λ k p. other k (omega (arith, last .some));
       few = omega arith;
     }
@@ -158,18 +158,18 @@ put-slot ws i e l =
     (getD-set-same two (3 * i + 2) (e .count) 0 (omega arith))
 
 -- behind no slot, or behind one that it is not joinable with
-push-apart : (n : ℕ) (ws : List ℕ) (w : ℕ) (x : Extent) → joinsLast n ws w x ≡ false → push n (slots ws 0 w) x ≡ slots ws 0 w ++ x ∷ []
-unfolding slots push
+push-apart : (n : ℕ) (ws : List ℕ) (w : ℕ) (x : Extent) → joinsLast n ws w x ≡ false → push n (slotsFrom ws 0 w) x ≡ slotsFrom ws 0 w ++ x ∷ []
+unfolding slotsFrom push
 push-apart n ws zero x t = refl
 push-apart n ws (suc j) x t =
     let e : joinable n (slot ws (suc j - 1)) x ≡ false = sym (joins-some n ws (suc j) x (omega arith)) ∙ t in
     let at : suc j - 1 ≡ j = omega arith in
     let e′ : joinable n (slot ws j) x ≡ false = sym (ap (λ (k : ℕ). joinable n (slot ws k) x) at) ∙ e in
     let next : suc j ≡ j + 1 = omega arith in
-    let more : slots ws 0 (suc j) ≡ slots ws 0 j ++ slot ws j ∷ [] = ap (slots ws 0) next ∙ slots-more ws 0 j j (omega arith) in
-    ap (λ (es : List Extent). push n es x) more ∙ push-last n (slots ws 0 j) (slot ws j) x
-    ∙ ap (λ (es : List Extent). slots ws 0 j ++ es) (join-apart n (slot ws j) x [] e′)
-    ∙ sym (ap (λ (es : List Extent). es ++ x ∷ []) more ∙ append-assoc (slots ws 0 j) (slot ws j ∷ []) (x ∷ []))
+    let more : slotsFrom ws 0 (suc j) ≡ slotsFrom ws 0 j ++ slot ws j ∷ [] = ap (slotsFrom ws 0) next ∙ slots-more ws 0 j j (omega arith) in
+    ap (λ (es : List Extent). push n es x) more ∙ push-last n (slotsFrom ws 0 j) (slot ws j) x
+    ∙ ap (λ (es : List Extent). slotsFrom ws 0 j ++ es) (join-apart n (slot ws j) x [] e′)
+    ∙ sym (ap (λ (es : List Extent). es ++ x ∷ []) more ∙ append-assoc (slotsFrom ws 0 j) (slot ws j ∷ []) (x ∷ []))
 
 pub pushed-apart : (n : ℕ) (ws ws′ : List ℕ) (w : ℕ) (x : Extent) → 3 * w + 2 < length ws → joinsLast n ws w x ≡ false → ws′ ≡ put ws w x
     → Pushed n ws w x ws′ (w + 1)
@@ -183,12 +183,12 @@ pushed-apart n ws ws′ w x l t e = subst (λ (zs : List ℕ). Pushed n ws w x z
 
 -- after i slots, each moved by g: w stand, joined, and the others are as they were
 pub record Packed (g : ℕ → ℕ) (n : ℕ) (ws : List ℕ) (i : ℕ) (ws′ : List ℕ) (w : ℕ) : Type 0 where
-  pub done : slots ws′ 0 w ≡ norm n (map (move g) (slots ws 0 i))
+  pub done : slotsFrom ws′ 0 w ≡ norm n (map (move g) (slotsFrom ws 0 i))
   pub rest : (k : ℕ) → 3 * i ≤ k → getD ws′ k 0 ≡ getD ws k 0
   pub few : w ≤ i
 
 pub packed-start : (g : ℕ → ℕ) (n : ℕ) (ws : List ℕ) → Packed g n ws 0 ws 0
-unfolding slots norm
+unfolding slotsFrom norm
 packed-start g n ws = record { done = refl; rest = λ k h. refl; few = omega arith }
 
 pub packed-slot : (g : ℕ → ℕ) (n : ℕ) (ws ws′ : List ℕ) (i w : ℕ) → Packed g n ws i ws′ w → slot ws′ i ≡ slot ws i
@@ -199,23 +199,23 @@ pub packed-step : (g : ℕ → ℕ) (n : ℕ) (ws ws′ ws″ : List ℕ) (i w k
 packed-step g n ws ws′ ws″ i w k x h e p = record {
   done = p .done ∙ ap₂ (push n) (h .done) (e ∙ ap (move g) (packed-slot g n ws ws′ i w h))
       ∙ sym (ap (λ (es : List Extent). norm n (map (move g) es)) (slots-more ws 0 i i (omega arith))
-      ∙ ap (norm n) (map-append (move g) (slots ws 0 i) (slot ws i ∷ []))
-      ∙ norm-push n (map (move g) (slots ws 0 i)) (move g (slot ws i)));
+      ∙ ap (norm n) (map-append (move g) (slotsFrom ws 0 i) (slot ws i ∷ []))
+      ∙ norm-push n (map (move g) (slotsFrom ws 0 i)) (move g (slot ws i)));
   rest = λ j a. p .rest j (omega (arith, h .few)) ∙ h .rest j (omega arith);
   few = omega (arith, p .few, h .few);
 }
 
-pub packed-length : (g : ℕ → ℕ) (n : ℕ) (ws ws′ : List ℕ) (i w : ℕ) → Packed g n ws i ws′ w → w ≡ length (norm n (map (move g) (slots ws 0 i)))
+pub packed-length : (g : ℕ → ℕ) (n : ℕ) (ws ws′ : List ℕ) (i w : ℕ) → Packed g n ws i ws′ w → w ≡ length (norm n (map (move g) (slotsFrom ws 0 i)))
 packed-length g n ws ws′ i w h = sym (slots-length ws′ 0 w) ∙ ap length (h .done)
 
 -- and zeros behind them
 pub packed-end : (g : ℕ → ℕ) (n : ℕ) (ws ws′ ys : List ℕ) (i w : ℕ) → 3 * i ≤ length ws → length ws′ ≡ length ws → Packed g n ws i ws′ w
     → ys ≡ replicate (length (midOf (3 * w) (length ws′ - 3 * w) ws′)) 0
-    → putMid (3 * w) (length ws′ - 3 * w) ws′ ys ≡ laid (norm n (map (move g) (slots ws 0 i))) (length ws)
+    → putMid (3 * w) (length ws′ - 3 * w) ws′ ys ≡ laid (norm n (map (move g) (slotsFrom ws 0 i))) (length ws)
 unfolding laid
 packed-end g n ws ws′ ys i w l m h e =
     let few = h .few in
-    let size : length (midOf (3 * w) (length ws′ - 3 * w) ws′) ≡ length ws - 3 * length (norm n (map (move g) (slots ws 0 i))) =
+    let size : length (midOf (3 * w) (length ws′ - 3 * w) ws′) ≡ length ws - 3 * length (norm n (map (move g) (slotsFrom ws 0 i))) =
     ap length (mid-tail (3 * w) ws′) ∙ length-drop (3 * w) ws′ ∙ omega (arith, packed-length g n ws ws′ i w h) in
     put-tail (3 * w) ws′ ys
     ∙ ap₂ (λ (a b : List ℕ). a ++ b)
@@ -223,7 +223,7 @@ packed-end g n ws ws′ ys i w l m h e =
     (e ∙ ap (λ (k : ℕ). replicate k 0) size)
 
 -- all of it
-pub moved-map : (ws : List ℕ) (u n : ℕ) (ranks : List ℕ) (v r : ℕ) → 0 < n → Ranks n (covered (slots ws 0 u) n v) ranks
-    → norm n (map (move (place n ranks v r)) (slots ws 0 u)) ≡ remapped n v r (slots ws 0 u)
+pub moved-map : (ws : List ℕ) (u n : ℕ) (ranks : List ℕ) (v r : ℕ) → 0 < n → Ranks n (covered (slotsFrom ws 0 u) n v) ranks
+    → norm n (map (move (place n ranks v r)) (slotsFrom ws 0 u)) ≡ remapped n v r (slotsFrom ws 0 u)
 unfolding remapped
-moved-map ws u n ranks v r z h = ap (norm n) (places-moved n ranks v r (covered (slots ws 0 u) n v) (slots ws 0 u) z h)
+moved-map ws u n ranks v r z h = ap (norm n) (places-moved n ranks v r (covered (slotsFrom ws 0 u) n v) (slotsFrom ws 0 u) z h)

@@ -5,7 +5,7 @@ ghost use mathlib.Core.Path.{_≡_};
 ghost use Prim.Native.Nat.{ℕ, _+_, _*_, _<_, _≤_};
 ghost use lib.ListN.{length, getD, take};
 ghost use Rattle.rules.specs.Blocks.{stride};
-ghost use Rattle.rules.specs.Extents.{none, end, joinable, slot, slots};
+ghost use Rattle.rules.specs.Extents.{none, end, joinable, slot, slotsFrom};
 ghost use Rattle.laws.specs.Cells.{swept};
 ghost use Rattle.laws.specs.Cells.{copies};
 ghost use Rattle.laws.specs.Norm.{move};
@@ -115,8 +115,8 @@ fn slot_after(ext: &[u32], i: usize, n: u32, v: u32, r: u32, ranks: &[u32]) -> E
 
 // How many extents the map has afterwards.
 pub fn joined_of(ext: &[u32], used: usize, n: u32, v: u32, r: u32, ranks: &[u32]) -> usize
-    requires { ⌜ (3 * used ≤ length (now ext)) × (1 ≤ n) × (r * n + n ≤ none) × Ranks n (covered (slots (now ext) 0 used) n v) (now ranks) ⌝ }
-    ensures { λ k. ⌜ k ≡ length (remapped n v r (slots (now (ext .entry)) 0 used)) ⌝ }
+    requires { ⌜ (3 * used ≤ length (now ext)) × (1 ≤ n) × (r * n + n ≤ none) × Ranks n (covered (slotsFrom (now ext) 0 used) n v) (now ranks) ⌝ }
+    ensures { λ k. ⌜ k ≡ length (remapped n v r (slotsFrom (now (ext .entry)) 0 used)) ⌝ }
 {
     let mut k = used;
     let mut i: usize = 0;
@@ -168,8 +168,8 @@ fn push_slot(ext: &mut [u32], w: usize, x: Extent, n: u32) -> usize
 
 // The map afterwards, each slot moved and joined from the left, and zeros behind them: how many extents it has.
 pub fn move_map(ext: &mut [u32], used: usize, n: u32, v: u32, r: u32, ranks: &[u32]) -> usize
-    requires { ⌜ (3 * used ≤ length (now ext)) × (1 ≤ n) × (r * n + n ≤ none) × Ranks n (covered (slots (now ext) 0 used) n v) (now ranks) × Ends (now ext) used ⌝ }
-    ensures { λ w. ⌜ (w ≡ length (remapped n v r (slots (now (ext .entry)) 0 used))) × (now (ext .exit) ≡ laid (remapped n v r (slots (now (ext .entry)) 0 used)) (length (now (ext .entry)))) ⌝ }
+    requires { ⌜ (3 * used ≤ length (now ext)) × (1 ≤ n) × (r * n + n ≤ none) × Ranks n (covered (slotsFrom (now ext) 0 used) n v) (now ranks) × Ends (now ext) used ⌝ }
+    ensures { λ w. ⌜ (w ≡ length (remapped n v r (slotsFrom (now (ext .entry)) 0 used))) × (now (ext .exit) ≡ laid (remapped n v r (slotsFrom (now (ext .entry)) 0 used)) (length (now (ext .entry)))) ⌝ }
 {
     let mut w: usize = 0;
     let mut i: usize = 0;

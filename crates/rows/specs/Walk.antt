@@ -14,7 +14,7 @@ use lib.ListN.{length, getD, set, length-set}
 use lib.Seq.{getD-set-same, getD-set-other}
 use Rattle.rules.specs.Counting.{sum}
 use Rattle.rules.specs.Blocks.{stride}
-use Rattle.rules.specs.Extents.{none, slot, slots}
+use Rattle.rules.specs.Extents.{none, slot, slotsFrom}
 use Rattle.laws.specs.Rows.{Rows, rows-le}
 use Rattle.laws.specs.Sane.{pagesIn}
 use Rattle.words.specs.Says.{Says, says-yes, says-no}
@@ -38,7 +38,7 @@ HomeOf ext blk spare blocks n i = Home blk spare blocks n (getD ext (3 * i) 0) (
 
 -- rules 1, 2 and 4 for the slots in use
 pub record Rowed (ext blk spare : List ℕ) (used blocks n top : ℕ) : Type 0 where
-  pub rows : Rows n 0 none top (slots ext 0 used)
+  pub rows : Rows n 0 none top (slotsFrom ext 0 used)
   pub homes : (i : ℕ) → i < used → HomeOf ext blk spare blocks n i
 
 -- what the walk says, and the tally that it leaves
@@ -51,8 +51,8 @@ pub record Walked (r : Bool) (ext blk spare tally : List ℕ) (used blocks n top
 pub record Left (ext blk spare tally : List ℕ) (used blocks n top i lo q : ℕ) : Type 0 where
   pub within : i ≤ used
   pub low : lo ≤ top
-  pub back : Rows n lo q top (slots ext i (used - i)) → Rows n 0 none top (slots ext 0 used)
-  pub on : Rows n 0 none top (slots ext 0 used) → Rows n lo q top (slots ext i (used - i))
+  pub back : Rows n lo q top (slotsFrom ext i (used - i)) → Rows n 0 none top (slotsFrom ext 0 used)
+  pub on : Rows n 0 none top (slotsFrom ext 0 used) → Rows n lo q top (slotsFrom ext i (used - i))
   pub homes : (j : ℕ) → j < i → HomeOf ext blk spare blocks n j
   pub wide : length tally ≡ 1024
   pub counts : (b : ℕ) → b < 1024 → getD tally b 0 ≡ sum i (pagesIn ext n b)
@@ -60,8 +60,8 @@ pub record Left (ext blk spare tally : List ℕ) (used blocks n top i lo q : ℕ
 
 module _ (ext : List ℕ) (n i : ℕ) where
   -- slot i apart from those behind it
-  slots-first : (used : ℕ) → i < used → slots ext i (used - i) ≡ slot ext i ∷ slots ext (i + 1) (used - (i + 1))
-  unfolding slots
+  slots-first : (used : ℕ) → i < used → slotsFrom ext i (used - i) ≡ slot ext i ∷ slotsFrom ext (i + 1) (used - (i + 1))
+  unfolding slotsFrom
   slots-first used h = let e : used - i ≡ suc (used - (i + 1)) = omega arith in rw e
 
   sum-next : (f : ℕ → ℕ) → sum (i + 1) f ≡ sum i f + f i
@@ -108,7 +108,7 @@ module _ {ext blk spare tally : List ℕ} {used blocks n top i lo q : ℕ} (h : 
   pub left-bad : i < used → (Stands n top lo q (getD ext (3 * i) 0) (getD ext (3 * i + 1) 0) (getD ext (3 * i + 2) 0) → ⊥) → Rowed ext blk spare used blocks n top → ⊥
   left-bad s g r =
       let t = rw (slots-first ext n i used s) at (h .on (r .rows)) in
-      g (record { row = t .0; ends = rows-le n top (slots ext (i + 1) (used - (i + 1))) _ _ (t .1) })
+      g (record { row = t .0; ends = rows-le n top (slotsFrom ext (i + 1) (used - (i + 1))) _ _ (t .1) })
 
   module _ (s : i < used) (few : blocks ≤ 1024) (pages : n ≤ 256)
       (g : Stands n top lo q (getD ext (3 * i) 0) (getD ext (3 * i + 1) 0) (getD ext (3 * i + 2) 0)) (k : HomeOf ext blk spare blocks n i) where
@@ -130,7 +130,7 @@ module _ {ext blk spare tally : List ℕ} {used blocks n top i lo q : ℕ} (h : 
         }
 
   pub left-end : used ≤ i → Walked true ext blk spare tally used blocks n top
-  unfolding slots
+  unfolding slotsFrom
   left-end s =
       let none-left : used - i ≡ 0 = omega arith in
       let all : i ≡ used = omega arith in

@@ -62,6 +62,6 @@ abbrev pub outcome : Said → List ℕ → List ℕ → List ℕ → List ℕ �
 outcome a extents blocks spare out = record {
   refusal = a .refusal;
   counts = a .counts;
-  after = record { head = a .head; extents = extents; blocks = blocks; spare = spare };
+  after = record { head = a .head; extentWords = extents; blockWords = blocks; spare = spare };
   out = out;
 }

@@ -12,7 +12,7 @@ use Rattle.rules.specs.Device.{Device, lines, free, live, stale, extents
 use Rattle.rules.specs.Placement.{puts, pieces}
 use Rattle.rules.specs.Reclaim.{victim, sources, reclaimed}
 use Rattle.rules.specs.Read.{found}
-use Rattle.rules.specs.Number.{judged, written, trimmed}
+use Rattle.rules.specs.Request.{judged, written, trimmed}
 use Rattle.rules.specs.Answers.{Outcome, refuse, number}
 use Rattle.rules.specs.declared.Head.{Head}
 use Rattle.rules.specs.declared.Refusal.{Refusal}
@@ -126,8 +126,8 @@ refused r c s = record { refusal = r; counts = zeros c; after = s; out = buffer 
 unfoldable pub accepted : Call → Device → Outcome Device
 accepted c d = record { refusal = 0; counts = counts c d; after = leaves c d; out = over (lists c d) (buffer c) }
 
-unfoldable pub plain : Call → Device → Outcome Device
-plain c d = cond (eqb (refusal c d) 0) (accepted c d) (refused (refusal c d) c d)
+unfoldable pub plainCall : Call → Device → Outcome Device
+plainCall c d = cond (eqb (refusal c d) 0) (accepted c d) (refused (refusal c d) c d)
 
 -- ---- on lent words
 
@@ -177,6 +177,6 @@ fresh b n l m extents blocks spare =
     (record {
       refusal = number Refusal.Shape;
       counts = [];
-      after = record { head = sizesOnly b n l m; extents = extents; blocks = blocks; spare = spare };
+      after = record { head = sizesOnly b n l m; extentWords = extents; blockWords = blocks; spare = spare };
       out = [];
     })

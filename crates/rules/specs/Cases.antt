@@ -1,4 +1,4 @@
--- How a case of document 01 is written down and run: the sizes of a fresh device, requests before it, and what is then asked, each with what must come out.
+-- How a case of document 01 is written down and run: the sizes of a fresh device, requests before it, and what is then looked at, each with what must come out.
 use Prim.Native.Nat.{ℕ, _+_, _*_}
 use mathlib.Core.Bool.{Bool, true, false, _&&_}
 use mathlib.Core.List.{List, [], _∷_, _++_, map}
@@ -9,19 +9,19 @@ use Rattle.rules.specs.Lent.{Lent}
 use Rattle.rules.specs.Answers.{Outcome}
 use Rattle.rules.specs.Calls.{Call, call, fresh}
 
-pub data Ask : Type 0 where
+pub data Look : Type 0 where
   -- a request: the refusal's number, or 0; the counts; and the words that the counts speak of
-  answer : Call → Ask
+  answer : Call → Look
   -- the whole map: the words of the extents in use
-  theMap : Ask
-  theReserve : Ask
+  theMap : Look
+  theReserve : Look
 
-pub record Step : Type 0 where
-  pub ask : Ask
+pub record Expect : Type 0 where
+  pub look : Look
   pub must : List ℕ
 
-abbrev pub step : Ask → List ℕ → Step
-step a m = record { ask = a; must = m }
+abbrev pub expect : Look → List ℕ → Expect
+expect a m = record { look = a; must = m }
 
 pub record Case : Type 0 where
   pub blocks : ℕ
@@ -29,7 +29,7 @@ pub record Case : Type 0 where
   pub logical : ℕ
   pub slots : ℕ
   pub before : List Call
-  pub steps : List Step
+  pub expects : List Expect
 
 -- the words of the answer buffer for each thing counted: 3 a piece, 1 a copied page
 abbrev pub width : Call → ℕ
@@ -42,24 +42,24 @@ width Call.report = 0
 unfoldable pub told : Call → Outcome Lent → List ℕ
 told c o = o .refusal ∷ (o .counts ++ take (width c * getD (o .counts) 0 0) (o .out))
 
-unfoldable pub asked : Ask → Lent → List ℕ
-asked (Ask.answer c) s = told c (call c s)
-asked Ask.theMap s = take (3 * s .head .used) (s .extents)
-asked Ask.theReserve s = s .head .reserve ∷ []
+unfoldable pub lookAt : Look → Lent → List ℕ
+lookAt (Look.answer c) s = told c (call c s)
+lookAt Look.theMap s = take (3 * s .head .used) (s .extentWords)
+lookAt Look.theReserve s = s .head .reserve ∷ []
 
-unfoldable pub next : Ask → Lent → Lent
-next (Ask.answer c) s = call c s .after
-next Ask.theMap s = s
-next Ask.theReserve s = s
+unfoldable pub next : Look → Lent → Lent
+next (Look.answer c) s = call c s .after
+next Look.theMap s = s
+next Look.theReserve s = s
 
-unfoldable pub run : List Call → Lent → Lent
-run [] s = s
-run (c ∷ cs) s = run cs (call c s .after)
+unfoldable pub afterAll : List Call → Lent → Lent
+afterAll [] s = s
+afterAll (c ∷ cs) s = afterAll cs (call c s .after)
 
 -- what comes out, step by step
-unfoldable pub seen : List Step → Lent → List (List ℕ)
+unfoldable pub seen : List Expect → Lent → List (List ℕ)
 seen [] s = []
-seen (x ∷ xs) s = asked (x .ask) s ∷ seen xs (next (x .ask) s)
+seen (x ∷ xs) s = lookAt (x .look) s ∷ seen xs (next (x .look) s)
 
 -- a fresh device of the case's sizes, in words that held something else
 unfoldable pub start : Case → Lent
@@ -68,10 +68,10 @@ start c =
     (replicate (3 * c .slots) 7) (replicate (stride * c .blocks) 7) (replicate (c .blocks * c .pages) 7) .after
 
 unfoldable pub comes : Case → List (List ℕ)
-comes c = seen (c .steps) (run (c .before) (start c))
+comes c = seen (c .expects) (afterAll (c .before) (start c))
 
 unfoldable pub musts : Case → List (List ℕ)
-musts c = map (λ x. x .must) (c .steps)
+musts c = map (λ x. x .must) (c .expects)
 
 -- ---- the test
 

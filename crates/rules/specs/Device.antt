@@ -111,7 +111,7 @@ headOf d = record {
 unfoldable pub wordsOf : Device → Lent
 wordsOf d = record {
   head = headOf d;
-  extents = flat (extents d) ++ replicate (3 * (d .slots - length (extents d))) 0;
-  blocks = records (d .fills) 0 (valid d);
+  extentWords = flat (extents d) ++ replicate (3 * (d .slots - length (extents d))) 0;
+  blockWords = records (d .fills) 0 (valid d);
   spare = d .spare;
 }

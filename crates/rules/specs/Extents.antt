@@ -47,9 +47,9 @@ abbrev pub slot : List ℕ → ℕ → Extent
 slot ws i = extent (getD ws (3 * i) 0) (getD ws (3 * i + 1) 0) (getD ws (3 * i + 2) 0)
 
 -- u slots from slot i on
-unfoldable pub slots : List ℕ → ℕ → ℕ → List Extent
-slots ws i zero = []
-slots ws i (suc u) = slot ws i ∷ slots ws (i + 1) u
+unfoldable pub slotsFrom : List ℕ → ℕ → ℕ → List Extent
+slotsFrom ws i zero = []
+slotsFrom ws i (suc u) = slot ws i ∷ slotsFrom ws (i + 1) u
 
 unfoldable pub flat : List Extent → List ℕ
 flat [] = []

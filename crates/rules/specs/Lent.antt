@@ -4,33 +4,36 @@ use mathlib.Core.Bool.{Bool}
 use mathlib.Core.List.{List}
 use lib.Dec.{ltb}
 use lib.ListN.{getD}
-use Rattle.rules.specs.Extents.{none, slot, slots}
+use Rattle.rules.specs.Extents.{none, slot, slotsFrom}
 use Rattle.rules.specs.Blocks.{fillWord, validWord}
 use Rattle.rules.specs.declared.Head.{Head}
 use Rattle.rules.specs.declared.Extent.{Extent}
 
 pub record Lent : Type 0 where
   pub head : Head
-  pub extents : List ℕ
-  pub blocks : List ℕ
+  -- 3M words: logical start, physical start and page count of each slot
+  pub extentWords : List ℕ
+  -- the records of the blocks
+  pub blockWords : List ℕ
+  -- B x N words: the spare entry of each page
   pub spare : List ℕ
 
 abbrev pub lent : Head → List ℕ → List ℕ → List ℕ → Lent
-lent h extents blocks spare = record { head = h; extents = extents; blocks = blocks; spare = spare }
+lent h extents blocks spare = record { head = h; extentWords = extents; blockWords = blocks; spare = spare }
 
 -- extent slot i
 abbrev pub slotOf : Lent → ℕ → Extent
-slotOf s i = slot (s .extents) i
+slotOf s i = slot (s .extentWords) i
 
 -- the extents in use: they fill the first slots
 abbrev pub inUse : Lent → List Extent
-inUse s = slots (s .extents) 0 (s .head .used)
+inUse s = slotsFrom (s .extentWords) 0 (s .head .used)
 
 abbrev pub fillOf : Lent → ℕ → ℕ
-fillOf s b = fillWord (s .blocks) b
+fillOf s b = fillWord (s .blockWords) b
 
 abbrev pub validOf : Lent → ℕ → ℕ
-validOf s b = validWord (s .blocks) b
+validOf s b = validWord (s .blockWords) b
 
 -- the spare entry of page p
 abbrev pub labelOf : Lent → ℕ → ℕ

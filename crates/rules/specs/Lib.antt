@@ -9,7 +9,7 @@ pub mod Placement
 pub mod Reclaim
 pub mod Read
 pub mod Answers
-pub mod Number
+pub mod Request
 pub mod Calls
 pub mod Cases
 pub mod Marked

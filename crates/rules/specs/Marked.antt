@@ -8,18 +8,18 @@ use borrow.Author.Tests.{eqb-true}
 use lib.Dec.{eqb}
 use lib.ListN.{length, getD, replicate}
 use Rattle.rules.specs.Counting.{sum, count, all, first, most, picks, tabulate, among}
-use Rattle.rules.specs.Extents.{lookup, joinable, join, runs, slots, flat}
+use Rattle.rules.specs.Extents.{lookup, joinable, join, runs, slotsFrom, flat}
 use Rattle.rules.specs.Blocks.{records}
 use Rattle.rules.specs.Shape.{sizes, lengths, shape, shaped}
 use Rattle.rules.specs.Sound.{rule1, rule2, rule3, rule4, mappedIn, rule5, rule6, sound}
 use Rattle.rules.specs.Device.{mapped, named, valid, staleIn, stale, live, room, free, extents, tableOf, deviceOf, headOf, wordsOf}
 use Rattle.rules.specs.Placement.{putAt, putsAt, placesAt, target, targets, puts, places, pieces}
 use Rattle.rules.specs.Reclaim.{victim, sources, goes, copied, moved, reclaimedAt, reclaimed}
-use Rattle.rules.specs.Read.{hole, holes, found}
-use Rattle.rules.specs.Number.{applied, judged, withTable, numbered, written, trimmed}
+use Rattle.rules.specs.Read.{withHole, withHoles, found}
+use Rattle.rules.specs.Request.{applied, judged, withTable, numbered, written, trimmed}
 use Rattle.rules.specs.Answers.{refuse}
 use Rattle.rules.specs.Calls.{Call, outside, tooMany, writeRefusal, trimRefusal, readRefusal, reclaimRefusal, refusal, counts, leaves, lists, over, refused, verdict, acceptedOn, call, freshDevice, sizesOnly, fresh}
-use Rattle.rules.specs.Cases.{Case, Step, Ask, step, told, asked, next, run, seen, start, comes, musts, same, sames, holds}
+use Rattle.rules.specs.Cases.{Case, Expect, Look, expect, told, lookAt, next, afterAll, seen, start, comes, musts, same, sames, holds}
 
 -- ---- the requests of the cases, with answer buffers of 48 words
 
@@ -32,25 +32,25 @@ write k l n = Call.write k l n room48
 abbrev trim : ℕ → ℕ → ℕ → Call
 trim k l n = Call.trim k l n
 
-abbrev answer : Call → List ℕ → Step
-answer c must = step (Ask.answer c) must
+abbrev answer : Call → List ℕ → Expect
+answer c must = expect (Look.answer c) must
 
-abbrev theMap : List ℕ → Step
-theMap must = step Ask.theMap must
+abbrev theMap : List ℕ → Expect
+theMap must = expect Look.theMap must
 
-abbrev theReserve : ℕ → Step
-theReserve r = step Ask.theReserve (r ∷ [])
+abbrev theReserve : ℕ → Expect
+theReserve r = expect Look.theReserve (r ∷ [])
 
 -- free, live, stale
-abbrev report : ℕ → ℕ → ℕ → Step
+abbrev report : ℕ → ℕ → ℕ → Expect
 report f l s = answer Call.report (0 ∷ f ∷ l ∷ s ∷ [])
 
-abbrev reclaim : List ℕ → Step
+abbrev reclaim : List ℕ → Expect
 reclaim must = answer (Call.reclaim room48) must
 
 -- "Unless said, B=4, N=16, L=32, M=16"
-abbrev usual : List Call → List Step → Case
-usual before steps = record { blocks = 4; pages = 16; logical = 32; slots = 16; before = before; steps = steps }
+abbrev usual : List Call → List Expect → Case
+usual before expects = record { blocks = 4; pages = 16; logical = 32; slots = 16; before = before; expects = expects }
 
 abbrev p3 : List Call
 p3 = write 1 0 2 ∷ write 2 4 1 ∷ write 3 10 4 ∷ write 4 6 1 ∷ write 5 11 2 ∷ write 6 7 1 ∷ write 7 9 1 ∷ []
@@ -97,7 +97,7 @@ marked =
       logical = 32;
       slots = 1;
       before = write 1 0 16 ∷ [];
-      steps = answer (trim 2 5 1) (6 ∷ []) ∷ answer (trim 2 0 16) (0 ∷ []) ∷ [];
+      expects = answer (trim 2 5 1) (6 ∷ []) ∷ answer (trim 2 0 16) (0 ∷ []) ∷ [];
     }
     -- P11
     ∷ usual (write 1 0 10 ∷ []) (
@@ -110,7 +110,7 @@ marked =
       logical = 1;
       slots = 1;
       before = [];
-      steps =
+      expects =
           answer (write 1 0 1) (0 ∷ 1 ∷ 0 ∷ 0 ∷ 1 ∷ [])
           ∷ answer (write 2 0 1) (0 ∷ 1 ∷ 0 ∷ 1 ∷ 1 ∷ [])
           ∷ answer (write 3 0 1) (5 ∷ 0 ∷ [])
@@ -124,15 +124,15 @@ marked =
 
 pub marked-holds : holds marked ≡ true
 unfolding sum count all first most picks tabulate among
-    lookup joinable join runs slots flat records sizes lengths shape shaped
+    lookup joinable join runs slotsFrom flat records sizes lengths shape shaped
     rule1 rule2 rule3 rule4 mappedIn rule5 rule6 sound
     mapped named valid staleIn stale live room free extents tableOf deviceOf headOf wordsOf
     putAt putsAt placesAt target targets puts places pieces
-    victim sources goes copied moved reclaimedAt reclaimed hole holes found
+    victim sources goes copied moved reclaimedAt reclaimed withHole withHoles found
     applied judged withTable numbered written trimmed refuse
     outside tooMany writeRefusal trimRefusal readRefusal reclaimRefusal refusal counts leaves lists over refused
     verdict acceptedOn call freshDevice sizesOnly fresh
-    told asked next run seen start comes musts same sames holds
+    told lookAt next afterAll seen start comes musts same sames holds
 marked-holds = refl
 
 -- ---- the law: each row of a table that holds comes out as it must

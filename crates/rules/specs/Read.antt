@@ -9,14 +9,14 @@ use Rattle.rules.specs.Device.{Device}
 use Rattle.rules.specs.declared.Extent.{Extent}
 
 -- the hole from a up to b, where there is one, in front of pieces
-unfoldable pub hole : ℕ → ℕ → List Extent → List Extent
-hole a b es = cond (ltb a b) (extent a none (b - a) ∷ es) es
+unfoldable pub withHole : ℕ → ℕ → List Extent → List Extent
+withHole a b es = cond (ltb a b) (extent a none (b - a) ∷ es) es
 
 -- pieces in logical order from a up to b, with each maximal hole between them
-unfoldable pub holes : ℕ → ℕ → List Extent → List Extent
-holes a b [] = hole a b []
-holes a b (e ∷ es) = hole a (e .logical) (e ∷ holes (end e) b es)
+unfoldable pub withHoles : ℕ → ℕ → List Extent → List Extent
+withHoles a b [] = withHole a b []
+withHoles a b (e ∷ es) = withHole a (e .logical) (e ∷ withHoles (end e) b es)
 
 -- 01, read: pieces in logical order: each overlapping extent, clipped: the extents of these n lines alone; and each maximal hole
 unfoldable pub found : ℕ → ℕ → Device → List Extent
-found l n d = holes l (l + n) (runs (d .pages) l (take n (drop l (d .table))))
+found l n d = withHoles l (l + n) (runs (d .pages) l (take n (drop l (d .table))))

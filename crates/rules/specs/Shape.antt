@@ -25,4 +25,4 @@ shape h extents blocks spare =
     && lengths (h .blocks) (h .pages) (h .slots) extents blocks spare
 
 unfoldable pub shaped : Lent → Bool
-shaped s = shape (s .head) (length (s .extents)) (length (s .blocks)) (length (s .spare))
+shaped s = shape (s .head) (length (s .extentWords)) (length (s .blockWords)) (length (s .spare))

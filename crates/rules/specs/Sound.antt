@@ -16,7 +16,7 @@ rule1 s =
     && all used (λ i. leb 1 (slotOf s i .count))
     && all (used - 1) (λ i. leb (end (slotOf s i)) (slotOf s (suc i) .logical))
     && all used (λ i. leb (end (slotOf s i)) (s .head .logical))
-    && all (length (s .extents) - 3 * used) (λ k. eqb (getD (s .extents) (3 * used + k) 0) 0)
+    && all (length (s .extentWords) - 3 * used) (λ k. eqb (getD (s .extentWords) (3 * used + k) 0) 0)
 
 -- rule 2: no extent crosses a block: its first page's offset and its count come to at most N. No two neighbours are joinable.
 unfoldable pub rule2 : Lent → Bool

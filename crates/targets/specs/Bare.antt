@@ -35,7 +35,7 @@ unfolding bare
 bare-alike blocks n reserve blk spare d p f s r = record { pages = p; fills = f; spare = s; reserve = r }
 
 -- nor from the device of lent words
-pub bare-device : (s : Lent) → Alike (bare (s .head .blocks) (s .head .pages) (s .head .reserve) (s .blocks) (s .spare)) (deviceOf s)
+pub bare-device : (s : Lent) → Alike (bare (s .head .blocks) (s .head .pages) (s .head .reserve) (s .blockWords) (s .spare)) (deviceOf s)
 unfolding bare deviceOf
 bare-device s = record { pages = refl; fills = refl; spare = refl; reserve = refl }
 

@@ -6,7 +6,7 @@ use borrow.Author.Tests.{le-leb, lt-leb}
 use lib.Dec.{leb}
 use Rattle.rules.specs.Lent.{Lent}
 use Rattle.rules.specs.Device.{deviceOf}
-use Rattle.rules.specs.Number.{applied, judged}
+use Rattle.rules.specs.Request.{applied, judged}
 use Rattle.rules.specs.Answers.{number, refuse}
 use Rattle.rules.specs.declared.Head.{Head}
 use Rattle.rules.specs.declared.Refusal.{Refusal}

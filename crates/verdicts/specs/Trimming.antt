@@ -8,7 +8,7 @@ use lib.ListN.{length}
 use Rattle.rules.specs.Extents.{end}
 use Rattle.rules.specs.Lent.{Lent, inUse}
 use Rattle.rules.specs.Device.{Device, extents, deviceOf}
-use Rattle.rules.specs.Number.{judged, trimmed, withTable}
+use Rattle.rules.specs.Request.{judged, trimmed, withTable}
 use Rattle.rules.specs.Answers.{number, refuse}
 use Rattle.rules.specs.Calls.{outside, tooMany, trimRefusal}
 use Rattle.rules.specs.declared.Refusal.{Refusal}
@@ -29,7 +29,7 @@ few-around s h z l e =
       arith,
       tally-le (λ x. ltb (x .logical) l) (inUse s),
       tally-le (λ x. ltb e (end x)) (inUse s),
-      slots-length (s .extents) 0 (s .head .used),
+      slots-length (s .extentWords) 0 (s .head .used),
       z .few,
       h .sizes .m-high,
     )

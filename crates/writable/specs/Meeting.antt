@@ -63,16 +63,16 @@ module _ (l n : ℕ) (s : Lent) (z : Writable l n s) where
   pub write-line : l + n ≤ 262144
   write-line = omega (arith, z .inside, lines-pages (z .shape .sizes), pages-high (z .shape .sizes))
 
-  pub write-slots : 3 * s .head .used ≤ length (s .extents)
+  pub write-slots : 3 * s .head .used ≤ length (s .extentWords)
   write-slots = omega (arith, z .shape .extents, z .sane .few)
 
-  pub write-before : (b : ℕ) → b ≡ startsBefore l (inUse s) → 3 * b ≤ length (s .extents)
+  pub write-before : (b : ℕ) → b ≡ startsBefore l (inUse s) → 3 * b ≤ length (s .extentWords)
   write-before b e =
       omega (
         arith,
         e,
         tally-le (λ x. ltb (x .logical) l) (inUse s),
-        Rattle.laws.specs.Slots.slots-length (s .extents) 0 (s .head .used),
+        Rattle.laws.specs.Slots.slots-length (s .extentWords) 0 (s .head .used),
         write-slots,
       )
 
@@ -80,20 +80,20 @@ module _ (l n : ℕ) (s : Lent) (z : Writable l n s) where
   pages-in = sane-good s (z .shape) (z .sane) .sound .words
 
   -- the code's pieces and first page are the rules'
-  pub pieces-are : (k : ℕ) → k ≡ length (spread (s .head .pages) (s .head .reserve) (fillsOf (s .head .blocks) (s .blocks)) 0 l n) → k ≡ piecesOf l n s
+  pub pieces-are : (k : ℕ) → k ≡ length (spread (s .head .pages) (s .head .reserve) (fillsOf (s .head .blocks) (s .blockWords)) 0 l n) → k ≡ piecesOf l n s
   pieces-are k e =
-      e ∙ ap length (pieces-on (s .head .blocks) (s .head .pages) (s .head .reserve) (s .blocks) (s .spare) (deviceOf s) (bare-device s) pages-in l n (z .enough))
+      e ∙ ap length (pieces-on (s .head .blocks) (s .head .pages) (s .head .reserve) (s .blockWords) (s .spare) (deviceOf s) (bare-device s) pages-in l n (z .enough))
 
-  pub first-is : (p : ℕ) → p ≡ firstPage (spread (s .head .pages) (s .head .reserve) (fillsOf (s .head .blocks) (s .blocks)) 0 l n) → p ≡ firstOf (deviceOf s)
+  pub first-is : (p : ℕ) → p ≡ firstPage (spread (s .head .pages) (s .head .reserve) (fillsOf (s .head .blocks) (s .blockWords)) 0 l n) → p ≡ firstOf (deviceOf s)
   first-is p e =
-      e ∙ first-on (s .head .blocks) (s .head .pages) (s .head .reserve) (s .blocks) (s .spare) (deviceOf s) (bare-device s) pages-in l n (z .enough) (z .some)
+      e ∙ first-on (s .head .blocks) (s .head .pages) (s .head .reserve) (s .blockWords) (s .spare) (deviceOf s) (bare-device s) pages-in l n (z .enough) (z .some)
       ∙ place-first l n (deviceOf s) (z .some)
 
-  pub joined-is : (p b : ℕ) (t : Bool) → p ≡ firstOf (deviceOf s) → b ≡ startsBefore l (inUse s) → t ≡ joinsBefore (s .head .pages) (extent l p 1) b (s .extents)
+  pub joined-is : (p b : ℕ) (t : Bool) → p ≡ firstOf (deviceOf s) → b ≡ startsBefore l (inUse s) → t ≡ joinsBefore (s .head .pages) (extent l p 1) b (s .extentWords)
       → one t ≡ leftJoin (s .head .pages) (extent l (firstOf (deviceOf s)) 1) (inUse s)
   joined-is p b t e f g =
-      ap one (g ∙ ap (λ (x : ℕ). joinsBefore (s .head .pages) (extent l x 1) b (s .extents)) e)
-      ∙ joins-before (s .head .pages) (s .head .logical) (extent l (firstOf (deviceOf s)) 1) (s .extents) (s .head .used) b (z .sane .rows) f
+      ap one (g ∙ ap (λ (x : ℕ). joinsBefore (s .head .pages) (extent l x 1) b (s .extentWords)) e)
+      ∙ joins-before (s .head .pages) (s .head .logical) (extent l (firstOf (deviceOf s)) 1) (s .extentWords) (s .head .used) b (z .sane .rows) f
 
   pub few-pieces : piecesOf l n s ≤ 256
   unfolding pieces

@@ -7,12 +7,12 @@ use native.Mathlib.Omega.{arith}
 use lib.Dec.{eqb}
 use lib.ListN.{length, getD, replicate, drop, length-append, length-drop}
 use Rattle.rules.specs.Counting.{one, count, tabulate}
-use Rattle.rules.specs.Extents.{none, extent, slot, slots, flat}
+use Rattle.rules.specs.Extents.{none, extent, slot, slotsFrom, flat}
 use Rattle.rules.specs.Blocks.{stride, fillWord, validWord, records}
 use Rattle.rules.specs.Lent.{Lent, lent, inUse, fillOf}
 use Rattle.rules.specs.Device.{Device, blocks, lines, fill, mapped, valid, free, extents, deviceOf, headOf, wordsOf}
 use Rattle.rules.specs.Placement.{target, targets, puts, pieces}
-use Rattle.rules.specs.Number.{withTable, numbered, written, trimmed}
+use Rattle.rules.specs.Request.{withTable, numbered, written, trimmed}
 use Rattle.rules.specs.Calls.{Call, counts, leaves, lists, over}
 use Rattle.rules.specs.declared.Head.{Head}
 use Rattle.rules.specs.declared.Extent.{Extent}
@@ -96,11 +96,11 @@ module _ (k l n : ℕ) (out : List ℕ) (s : Lent) (z : Ready (Call.write k l n 
       held-used =
           w .map .used ∙ cut-length (s .head .pages) (s .head .logical) l (l + n) (inUse s) (z .sane .rows) ∙ omega (arith, e .before, e .after)
 
-      ext-length : length ext ≡ length (s .extents)
+      ext-length : length ext ≡ length (s .extentWords)
       ext-length =
-          became-length (length (s .extents)) (cut l (l + n) (inUse s)) ext u (w .map .is) (sym (w .map .used)) (omega (arith, held-used, grows l n s writes m e, some-pieces, one-le (m .joined), z .taken .nodes, slots-same, z .shape .extents))
+          became-length (length (s .extentWords)) (cut l (l + n) (inUse s)) ext u (w .map .is) (sym (w .map .used)) (omega (arith, held-used, grows l n s writes m e, some-pieces, one-le (m .joined), z .taken .nodes, slots-same, z .shape .extents))
 
-      small : 3 * u ≤ length (s .extents)
+      small : 3 * u ≤ length (s .extentWords)
       small = omega (arith, held-used, grows l n s writes m e, some-pieces, one-le (m .joined), z .taken .nodes, slots-same, z .shape .extents)
 
       -- ---- the pages placed
@@ -111,7 +111,7 @@ module _ (k l n : ℕ) (out : List ℕ) (s : Lent) (z : Ready (Call.write k l n 
           tabulate-same (s .head .blocks) (fillWord blk) (fillOf s)
           (λ b p. ap (λ (ws : List ℕ). fillWord ws b) (w .blocks) ∙ at b p)
         where
-          at : (b : ℕ) → b < s .head .blocks → fillWord (wordsOf (holed l n s) .blocks) b ≡ fillOf s b
+          at : (b : ℕ) → b < s .head .blocks → fillWord (wordsOf (holed l n s) .blockWords) b ≡ fillOf s b
           at b p = unfold wordsOf trimmed withTable in records-fill (deviceOf s .fills) 0 (valid (holed l n s)) b ∙ device-fill s b p
 
       alike : Alike (bare (s .head .blocks) (s .head .pages) (s .head .reserve) blk (s .spare)) (deviceOf s)
@@ -125,11 +125,11 @@ module _ (k l n : ℕ) (out : List ℕ) (s : Lent) (z : Ready (Call.write k l n 
       unfolding trimmed withTable
       same-blocks = device-blocks s
 
-      words-length : length (wordsOf (holed l n s) .blocks) ≡ stride * blocks (holed l n s)
+      words-length : length (wordsOf (holed l n s) .blockWords) ≡ stride * blocks (holed l n s)
       unfolding wordsOf
       words-length = records-length (holed l n s .fills) 0 (valid (holed l n s))
 
-      blk-length : length blk ≡ length (s .blocks)
+      blk-length : length blk ≡ length (s .blockWords)
       blk-length = ap length (w .blocks) ∙ words-length ∙ omega (arith, same-blocks, z .shape .blocks)
 
       valid-at : (b : ℕ) → b < s .head .blocks → validWord blk b ≡ valid (holed l n s) b
@@ -161,9 +161,9 @@ module _ (k l n : ℕ) (out : List ℕ) (s : Lent) (z : Ready (Call.write k l n 
         unfolding over
         answer = placed .answer
 
-        listed : slots out′ 0 r ≡ pieces l n (deviceOf s)
+        listed : slotsFrom out′ 0 r ≡ pieces l n (deviceOf s)
         listed =
-            ap₂ (λ (ws : List ℕ) (x : ℕ). slots ws 0 x) answer (placed .many)
+            ap₂ (λ (ws : List ℕ) (x : ℕ). slotsFrom ws 0 x) answer (placed .many)
             ∙ slots-flat (pieces l n (deviceOf s)) (drop (length (flat (pieces l n (deviceOf s)))) out)
 
         out-length : 3 * r ≤ length out′
@@ -178,8 +178,8 @@ module _ (k l n : ℕ) (out : List ℕ) (s : Lent) (z : Ready (Call.write k l n 
 
         -- ---- the pieces put in
 
-        cut-slots : slots ext 0 u ≡ cut l (l + n) (inUse s)
-        cut-slots = became-slots (length (s .extents)) (cut l (l + n) (inUse s)) ext u (w .map .is) (sym (w .map .used)) small
+        cut-slots : slotsFrom ext 0 u ≡ cut l (l + n) (inUse s)
+        cut-slots = became-slots (length (s .extentWords)) (cut l (l + n) (inUse s)) ext u (w .map .is) (sym (w .map .used)) small
 
         -- an extent has at most N pages
         short : (i : ℕ) → i < u → slot ext i .count ≤ 256
@@ -210,7 +210,7 @@ module _ (k l n : ℕ) (out : List ℕ) (s : Lent) (z : Ready (Call.write k l n 
 
         pub puttable : Puttable ext u (m .before) (m .joined) out′ r
         puttable = record {
-          held = became-holds (length (s .extents)) (cut l (l + n) (inUse s)) ext u (w .map .is) (sym (w .map .used)) small;
+          held = became-holds (length (s .extentWords)) (cut l (l + n) (inUse s)) ext u (w .map .is) (sym (w .map .used)) small;
           within = omega (arith, held-used);
           some = omega (arith, placed .many, some-pieces);
           fits = out-length;
@@ -218,8 +218,8 @@ module _ (k l n : ℕ) (out : List ℕ) (s : Lent) (z : Ready (Call.write k l n 
           joins = λ t. let a = joins-some t in (a, omega (arith, short (m .before - 1) (omega (arith, held-used)), short-piece));
         }
 
-        module _ (ext′ : List ℕ) (v : ℕ) (q : Becomes (length ext) (putIn (m .before) (m .joined) (slots out′ 0 r) (slots ext 0 u)) ext′ v) where
-          after : putIn (m .before) (m .joined) (slots out′ 0 r) (slots ext 0 u) ≡ extents (puts l n (deviceOf s))
+        module _ (ext′ : List ℕ) (v : ℕ) (q : Becomes (length ext) (putIn (m .before) (m .joined) (slotsFrom out′ 0 r) (slotsFrom ext 0 u)) ext′ v) where
+          after : putIn (m .before) (m .joined) (slotsFrom out′ 0 r) (slotsFrom ext 0 u) ≡ extents (puts l n (deviceOf s))
           after =
               let es = extents-in-use s (z .shape) (z .sane) in
               ap₂ (λ (ps cs : List Extent). putIn (m .before) (m .joined) ps cs) listed (cut-slots ∙ ap (cut l (l + n)) (sym es))

@@ -1,7 +1,7 @@
 -- The walk: the slots passed have taken what they had.
 use Prim.Native.Nat.{_-_, _≤_}
 use mathlib.Core.Path.{_≡_}
-use Rattle.rules.specs.Extents.{slots}
+use Rattle.rules.specs.Extents.{slotsFrom}
 use Rattle.blocks.specs.Lowered.{Lowered, lowered-start, lowered-more, lowered-enough}
 use borrow.Author.Needs.{needs}
 use native.Mathlib.Omega.{arith}
@@ -9,7 +9,7 @@ use Rattle.blocks.proofs.lower.Statement.{statement}
 use Rattle.blocks.proofs.lower.Tie as tie
 
 abbrev Inv-loop : tie.InvT-loop
-Inv-loop ext used pages l e blk₀ i₀ blk i = (i ≤ used) × Lowered pages l e (slots ext 0 i) blk₀ blk
+Inv-loop ext used pages l e blk₀ i₀ blk i = (i ≤ used) × Lowered pages l e (slotsFrom ext 0 i) blk₀ blk
 
 abbrev μ-loop : tie.MeasureT-loop
 μ-loop ext used pages l e blk₀ i₀ blk i = used - i

@@ -1,5 +1,5 @@
 use lib.ListN.{getD-replicate}
-use Rattle.rules.specs.Extents.{slots}
+use Rattle.rules.specs.Extents.{slotsFrom}
 use Rattle.laws.specs.Sums.{one-le}
 use Rattle.choosing.specs.Covered.{covered}
 use Rattle.choosing.specs.Ranks.{marks-ranks}
@@ -18,7 +18,7 @@ slice-aggregate-add-up : tie.Need-slice-aggregate-add-up
 slice-aggregate-add-up c = search needs
 
 add-up-requires : tie.Need-add-up-requires
-add-up-requires c κs = (omega arith, omega arith, λ o h. omega (arith, c .before .before .mark-slots .ensures o h, one-le (covered (slots (c .before .before .before .before .before .args .ext .now) 0 (c .before .before .before .before .before .args .used)) (c .before .before .before .before .before .args .n) (c .before .before .before .before .before .args .v) o)))
+add-up-requires c κs = (omega arith, omega arith, λ o h. omega (arith, c .before .before .mark-slots .ensures o h, one-le (covered (slotsFrom (c .before .before .before .before .before .args .ext .now) 0 (c .before .before .before .before .before .args .used)) (c .before .before .before .before .before .args .n) (c .before .before .before .before .before .args .v) o)))
 
 returns : tie.Need-returns
 returns c = marks-ranks (c .before .before .before .before .before .before .before .args .ext .now) (c .before .before .before .before .before .before .before .args .used) (c .before .before .before .before .before .before .before .args .n) (c .before .before .before .before .before .before .before .args .v) (c .before .before .before .before .mark-slots .last .0) (c .before .add-up .last .0) (omega arith) (c .before .before .before .before .mark-slots .ensures) (c .before .add-up .ensures)

@@ -4,7 +4,7 @@ use Rattle.map.specs.Around.{starts-start, ends-start, starts-in, starts
 use Prim.Native.Nat.{_-_, _≤_}
 use mathlib.Core.Path.{_≡_}
 use mathlib.Core.Logic.{⊎-elim}
-use Rattle.rules.specs.Extents.{slots}
+use Rattle.rules.specs.Extents.{slotsFrom}
 use Rattle.laws.specs.Counts.{startsBefore, endsAfter}
 use borrow.Author.Needs.{needs}
 use native.Mathlib.Omega.{arith}
@@ -12,7 +12,7 @@ use Rattle.map.proofs.around.Statement.{statement}
 use Rattle.map.proofs.around.Tie as tie
 
 abbrev Inv-loop : tie.InvT-loop
-Inv-loop ext used l e before₀ after₀ i₀ before after i = (i ≤ used) × (before ≡ startsBefore l (slots ext 0 i)) × (after ≡ endsAfter e (slots ext 0 i))
+Inv-loop ext used l e before₀ after₀ i₀ before after i = (i ≤ used) × (before ≡ startsBefore l (slotsFrom ext 0 i)) × (after ≡ endsAfter e (slotsFrom ext 0 i))
 
 abbrev μ-loop : tie.MeasureT-loop
 μ-loop ext used l e before₀ after₀ i₀ before after i = used - i

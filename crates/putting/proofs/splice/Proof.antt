@@ -2,7 +2,7 @@
 use Prim.Native.Nat.{_-_, _≤_}
 use mathlib.Core.Path.{_≡_, refl}
 use lib.ListN.{length}
-use Rattle.rules.specs.Extents.{slots}
+use Rattle.rules.specs.Extents.{slotsFrom}
 use Rattle.map.specs.Padded.{padded}
 use Rattle.putting.specs.Pieces.{spliced, splice-start, splice-holds, splice-more, splice-end}
 use borrow.Author.Needs.{needs}
@@ -11,7 +11,7 @@ use Rattle.putting.proofs.splice.Statement.{statement}
 use Rattle.putting.proofs.splice.Tie as tie
 
 abbrev Inv-loop : tie.InvT-loop
-Inv-loop ext₀ used i new s k d₀ ext d = (d ≤ k - s) × (length ext ≡ length ext₀) × (ext ≡ padded (length ext₀) (spliced i (slots new s d) (slots ext₀ 0 used)))
+Inv-loop ext₀ used i new s k d₀ ext d = (d ≤ k - s) × (length ext ≡ length ext₀) × (ext ≡ padded (length ext₀) (spliced i (slotsFrom new s d) (slotsFrom ext₀ 0 used)))
 
 abbrev μ-loop : tie.MeasureT-loop
 μ-loop ext₀ used i new s k d₀ ext d = k - s - d

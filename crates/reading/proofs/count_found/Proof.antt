@@ -3,7 +3,7 @@ use Rattle.reading.specs.Walk.{count-end, hole-le}
 use Prim.Native.Nat.{_+_, _-_, _*_, _≤_}
 use mathlib.Core.Path.{_≡_}
 use lib.ListN.{length}
-use Rattle.rules.specs.Extents.{slots, slot}
+use Rattle.rules.specs.Extents.{slotsFrom, slot}
 use Rattle.reading.specs.Walk.{between, reaches, tells-le, count-start, count-more, walk-end, walk-over}
 use borrow.Author.Needs.{needs}
 use native.Mathlib.Omega.{arith}
@@ -11,7 +11,7 @@ use Rattle.reading.proofs.count_found.Statement.{statement}
 use Rattle.reading.proofs.count_found.Tie as tie
 
 abbrev Inv-loop : tie.InvT-loop
-Inv-loop ext used l e count₀ pos₀ i₀ count pos i = (i ≤ used) × (pos ≤ e) × (count ≤ 2 * i) × (length (between l e (slots ext 0 used)) ≡ count + length (between pos e (slots ext i (used - i))))
+Inv-loop ext used l e count₀ pos₀ i₀ count pos i = (i ≤ used) × (pos ≤ e) × (count ≤ 2 * i) × (length (between l e (slotsFrom ext 0 used)) ≡ count + length (between pos e (slotsFrom ext i (used - i))))
 
 abbrev μ-loop : tie.MeasureT-loop
 μ-loop ext used l e count₀ pos₀ i₀ count pos i = used - i

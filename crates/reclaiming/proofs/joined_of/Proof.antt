@@ -2,7 +2,7 @@ use Prim.Native.Nat.{_+_, _-_, _≤_}
 use mathlib.Core.Path.{_≡_, ap, ap₂, _∙_}
 use mathlib.Core.Logic.{⊎-elim}
 use Rattle.rules.specs.Counting.{one, count}
-use Rattle.rules.specs.Extents.{joinable, slots}
+use Rattle.rules.specs.Extents.{joinable, slotsFrom}
 use Rattle.laws.specs.Sums.{count-le}
 use Rattle.choosing.specs.Covered.{covered}
 use Rattle.choosing.specs.Ranks.{ranks-movable}
@@ -35,13 +35,13 @@ add-loop : tie.Need-add-loop Inv-loop μ-loop
 add-loop c = search needs
 
 slot-after-requires : tie.Need-slot-after-requires Inv-loop μ-loop
-slot-after-requires c κs = (omega arith, ranks-movable (c .before .before .before .before .args .n) (covered (slots (c .before .before .before .before .args .ext .now) 0 (c .before .before .before .before .args .used)) (c .before .before .before .before .args .n) (c .before .before .before .before .args .v)) (c .before .before .before .before .args .ranks .now) (c .before .before .before .before .pre .3) (c .before .before .before .before .args .r) (omega arith) (omega arith))
+slot-after-requires c κs = (omega arith, ranks-movable (c .before .before .before .before .args .n) (covered (slotsFrom (c .before .before .before .before .args .ext .now) 0 (c .before .before .before .before .args .used)) (c .before .before .before .before .args .n) (c .before .before .before .before .args .v)) (c .before .before .before .before .args .ranks .now) (c .before .before .before .before .pre .3) (c .before .before .before .before .args .r) (omega arith) (omega arith))
 
 add-slot-after : tie.Need-add-slot-after Inv-loop μ-loop
 add-slot-after c = search needs
 
 slot-after-requires-2 : tie.Need-slot-after-requires-2 Inv-loop μ-loop
-slot-after-requires-2 c κs = (omega arith, ranks-movable (c .before .before .before .before .before .args .n) (covered (slots (c .before .before .before .before .before .args .ext .now) 0 (c .before .before .before .before .before .args .used)) (c .before .before .before .before .before .args .n) (c .before .before .before .before .before .args .v)) (c .before .before .before .before .before .args .ranks .now) (c .before .before .before .before .before .pre .3) (c .before .before .before .before .before .args .r) (omega arith) (omega arith))
+slot-after-requires-2 c κs = (omega arith, ranks-movable (c .before .before .before .before .before .args .n) (covered (slotsFrom (c .before .before .before .before .before .args .ext .now) 0 (c .before .before .before .before .before .args .used)) (c .before .before .before .before .before .args .n) (c .before .before .before .before .before .args .v)) (c .before .before .before .before .before .args .ranks .now) (c .before .before .before .before .before .pre .3) (c .before .before .before .before .before .args .r) (omega arith) (omega arith))
 
 joins-requires : tie.Need-joins-requires Inv-loop μ-loop
 joins-requires c κs = search needs

@@ -2,7 +2,7 @@ use Prim.Native.Nat.{ℕ, _-_, _≤_}
 use mathlib.Core.Path.{_≡_, refl, ap, _∙_}
 use mathlib.Core.List.{List, map}
 use lib.ListN.{length}
-use Rattle.rules.specs.Extents.{end, slots}
+use Rattle.rules.specs.Extents.{end, slotsFrom}
 use Rattle.rules.specs.declared.Extent.{Extent}
 use Rattle.laws.specs.Norm.{norm, move}
 use Rattle.choosing.specs.Covered.{covered}
@@ -26,7 +26,7 @@ loop-holds c = (search needs, refl, packed-start (place (c .before .before .args
 slot-after-requires : tie.Need-slot-after-requires Inv-loop μ-loop
 slot-after-requires c κs = (
   omega arith,
-  ranks-movable (c .before .before .before .before .before .args .n) (covered (slots (c .before .before .before .before .before .args .ext .now) 0 (c .before .before .before .before .before .args .used)) (c .before .before .before .before .before .args .n) (c .before .before .before .before .before .args .v)) (c .before .before .before .before .before .args .ranks .now) (c .before .before .before .before .before .pre .3) (c .before .before .before .before .before .args .r) (omega arith) (omega arith),
+  ranks-movable (c .before .before .before .before .before .args .n) (covered (slotsFrom (c .before .before .before .before .before .args .ext .now) 0 (c .before .before .before .before .before .args .used)) (c .before .before .before .before .before .args .n) (c .before .before .before .before .before .args .v)) (c .before .before .before .before .before .args .ranks .now) (c .before .before .before .before .before .pre .3) (c .before .before .before .before .before .args .r) (omega arith) (omega arith),
 )
 
 push-slot-requires : tie.Need-push-slot-requires Inv-loop μ-loop
@@ -81,9 +81,9 @@ returns c =
     let e : c .before .before .before .before .before .loop .i ≡ c .before .before .before .before .before .before .before .before .args .used = omega arith in
     let all = moved-map (c .before .before .before .before .before .before .before .before .args .ext .now) (c .before .before .before .before .before .before .before .before .args .used) (c .before .before .before .before .before .before .before .before .args .n) (c .before .before .before .before .before .before .before .before .args .ranks .now) (c .before .before .before .before .before .before .before .before .args .v) (c .before .before .before .before .before .before .before .before .args .r) (omega arith) (c .before .before .before .before .before .before .before .before .pre .3) in (
       packed-length (place (c .before .before .before .before .before .before .before .before .args .n) (c .before .before .before .before .before .before .before .before .args .ranks .now) (c .before .before .before .before .before .before .before .before .args .v) (c .before .before .before .before .before .before .before .before .args .r)) (c .before .before .before .before .before .before .before .before .args .n) (c .before .before .before .before .before .before .before .before .args .ext .now) (c .before .before .before .before .before .loop .ext) (c .before .before .before .before .before .loop .i) (c .before .before .before .before .before .loop .w) (c .before .before .before .before .before .loop .inv .2)
-          ∙ ap (λ (k : ℕ). length (norm (c .before .before .before .before .before .before .before .before .args .n) (map (move (place (c .before .before .before .before .before .before .before .before .args .n) (c .before .before .before .before .before .before .before .before .args .ranks .now) (c .before .before .before .before .before .before .before .before .args .v) (c .before .before .before .before .before .before .before .before .args .r))) (slots (c .before .before .before .before .before .before .before .before .args .ext .now) 0 k)))) e ∙ ap length all,
+          ∙ ap (λ (k : ℕ). length (norm (c .before .before .before .before .before .before .before .before .args .n) (map (move (place (c .before .before .before .before .before .before .before .before .args .n) (c .before .before .before .before .before .before .before .before .args .ranks .now) (c .before .before .before .before .before .before .before .before .args .v) (c .before .before .before .before .before .before .before .before .args .r))) (slotsFrom (c .before .before .before .before .before .before .before .before .args .ext .now) 0 k)))) e ∙ ap length all,
       packed-end (place (c .before .before .before .before .before .before .before .before .args .n) (c .before .before .before .before .before .before .before .before .args .ranks .now) (c .before .before .before .before .before .before .before .before .args .v) (c .before .before .before .before .before .before .before .before .args .r)) (c .before .before .before .before .before .before .before .before .args .n) (c .before .before .before .before .before .before .before .before .args .ext .now) (c .before .before .before .before .before .loop .ext) (c .before .before .fill-with .last .0) (c .before .before .before .before .before .loop .i) (c .before .before .before .before .before .loop .w) (omega arith) (omega arith) (c .before .before .before .before .before .loop .inv .2) (c .before .before .fill-with .ensures)
-          ∙ ap (λ (k : ℕ). laid (norm (c .before .before .before .before .before .before .before .before .args .n) (map (move (place (c .before .before .before .before .before .before .before .before .args .n) (c .before .before .before .before .before .before .before .before .args .ranks .now) (c .before .before .before .before .before .before .before .before .args .v) (c .before .before .before .before .before .before .before .before .args .r))) (slots (c .before .before .before .before .before .before .before .before .args .ext .now) 0 k))) (length (c .before .before .before .before .before .before .before .before .args .ext .now))) e
+          ∙ ap (λ (k : ℕ). laid (norm (c .before .before .before .before .before .before .before .before .args .n) (map (move (place (c .before .before .before .before .before .before .before .before .args .n) (c .before .before .before .before .before .before .before .before .args .ranks .now) (c .before .before .before .before .before .before .before .before .args .v) (c .before .before .before .before .before .before .before .before .args .r))) (slotsFrom (c .before .before .before .before .before .before .before .before .args .ext .now) 0 k))) (length (c .before .before .before .before .before .before .before .before .args .ext .now))) e
           ∙ ap (λ (es : List Extent). laid es (length (c .before .before .before .before .before .before .before .before .args .ext .now))) all,
     )
 

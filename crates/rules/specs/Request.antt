@@ -1,4 +1,4 @@
--- The request number: when a write or trim has been applied, and the device that an accepted one leaves.
+-- A write's or trim's request number k: when it has been applied, and the device that an accepted one leaves.
 use Prim.Native.Nat.{ℕ}
 use mathlib.Core.Bool.{Bool}
 use mathlib.Core.List.{List}
@@ -13,11 +13,11 @@ use Rattle.rules.specs.declared.Refusal.{Refusal}
 
 -- 01, Refusals, 4: number not above the last number
 unfoldable pub applied : ℕ → Device → Bool
-applied number d = leb number (d .last)
+applied k d = leb k (d .last)
 
 -- the test of a number: 4 where it applies, what the later tests give where it does not
 unfoldable pub judged : ℕ → Device → ℕ → ℕ
-judged number d later = refuse (applied number d) Refusal.Applied later
+judged k d later = refuse (applied k d) Refusal.Applied later
 
 -- the refusals that a write or trim in range gets for a number that is used up: one that is not above an accepted one
 unfoldable pub usedUp : ℕ → Bool
@@ -25,23 +25,23 @@ usedUp r = eqb r (number Refusal.Applied)
 
 -- an accepted write or trim sets the last number to its own
 unfoldable pub withTable : List ℕ → ℕ → Device → Device
-withTable table number d = record {
+withTable table k d = record {
   pages = d .pages;
   slots = d .slots;
   table = table;
   fills = d .fills;
   spare = d .spare;
   reserve = d .reserve;
-  last = number;
+  last = k;
 }
 
 unfoldable pub numbered : ℕ → Device → Device
-numbered number d = withTable (d .table) number d
+numbered k d = withTable (d .table) k d
 
 -- 01, write
 unfoldable pub written : ℕ → ℕ → ℕ → Device → Device
-written number l n d = numbered number (puts l n d)
+written k l n d = numbered k (puts l n d)
 
 -- 01, trim: the range becomes holes; spare and fill stay
 unfoldable pub trimmed : ℕ → ℕ → ℕ → Device → Device
-trimmed number l n d = withTable (sets (d .table) l (replicate n none)) number d
+trimmed k l n d = withTable (sets (d .table) l (replicate n none)) k d
