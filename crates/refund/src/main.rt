@@ -169,6 +169,13 @@ fn title() {
     );
 }
 
+fn theorem() {
+    say::text(
+        b"\nThis is one history. The same is proved of every history, from any sound state and with anything in between:\n",
+    );
+    say::text(b"theorem applied-once, which crates/demands/specs/Once.antt states.\n");
+}
+
 // Numbers 1 and 2: the backup and its correction, each sent twice.
 fn backup(
     head: Head,
@@ -227,4 +234,5 @@ fn main() {
     let last = anew(reclaimed, &mut ext, &mut blk, &mut spare, &mut flash, &book);
     say::text(b"\n9. Every line is read back.\n");
     read_back(last, &ext, &blk, &spare, &flash, &book);
+    theorem();
 }
