@@ -1,7 +1,7 @@
 -- The double refund. A queue crashed, the host sent a write again, and it was applied twice: the old pages were struck off their block's count twice. Here
 -- a write or trim is applied at most once, whatever is sent again, at once or after any further requests.
 -- This is the statement; `applied-once` (Proved) proves it.
-use Prim.Native.Nat.{ℕ, _+_, _/_, _≤_, _<_}
+use Prim.Native.Nat.{ℕ, _+_, _-_, _/_, _^_, _≤_, _<_}
 use mathlib.Core.Bool.{Bool, true, false, cond, _&&_, _||_}
 use mathlib.Core.Path.{_≡_}
 use mathlib.Core.List.{List, [], _∷_}
@@ -64,6 +64,9 @@ pub record AppliedOnce (w : World) : Type 0 where
   -- the very same request is refused exactly 4
   pub same : (a : Ask) (new : List ℕ) (further : List Ask) → carries (a .request) ≡ true
       → call (a .request) (w .state) .refusal ≡ 0 → call (again (a .request) new) (run further (step a w) .state) .refusal ≡ 4
+  -- a 64-bit number is never above the largest: once that is the last number, every write and trim in range is refused so
+  pub largest : (a : Ask) → carries (a .request) ≡ true → numberOf (a .request) < 2 ^ 64 → w .state .head .last ≡ 2 ^ 64 - 1
+      → given (a .request) (w .state) Refusal.Range ≡ false → usedUp (call (a .request) (w .state) .refusal) ≡ true
   -- an accepted write or trim lowers each block's valid count once for each page of its range that the block held, and raises it once for each that it
   -- holds now
   pub lowers : (a : Ask) → carries (a .request) ≡ true → call (a .request) (w .state) .refusal ≡ 0 → (b : ℕ) → b < w .state .head .blocks

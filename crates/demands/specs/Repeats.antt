@@ -291,6 +291,7 @@ once-fine w f =
           used-refusal (again c new) (v .state) (again-carries c new ∙ n) (run-fine further (step a w) (call-fine c (w .state) f))
           (omega (arith, again-number c new, accepted-last c (w .state) n e, run-last further (step a w)))
           ∙ ap (λ (t : Bool). cond t (number Refusal.Range) (number Refusal.Applied)) range;
+      largest = λ a n h e. nothing a w n f (omega arith) .inside;
       lowers = λ a n e. call-lowered (a .request) (w .state) n e;
       leaves = out;
       valid = λ asks b. ap (λ (v : World). validOf (v .state) b) (out asks);

@@ -16,7 +16,8 @@ use Rattle.rules.specs.declared.Counted.{Counted}
 use Rattle.demands.specs.Demand1.{Answers, FreshAnswers}
 use Rattle.demands.specs.Proved.{demand-1}
 use Rattle.layer.specs.Told.{done-one, listed-one, counted-one}
-use Rattle.layer.specs.Promises.{Words, Promises, by-rule}
+use Rattle.layer.specs.Promises.{Words, Promises}
+use Rattle.layer.specs.ByRule.{by-rule}
 use Rattle.layer.proofs.fresh.Kinds as Fresh
 use Rattle.layer.proofs.fresh.Reads as fresh-contract
 use Rattle.layer.proofs.write.Kinds as Write

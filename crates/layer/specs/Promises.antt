@@ -1,7 +1,7 @@
 -- What a public call is held to, said of the contract that the checker uses: it asks nothing, answers as demand 1 says, and allows one result. Each call's own
--- statement is in proofs/Calls.antt; here are the words for it, and the law behind all of them.
+-- statement is in proofs/Calls.antt; here are the words for it.
 use Prim.Native.Nat.{ℕ}
-use mathlib.Core.Path.{_≡_, sym, ap, _∙_, subst}
+use mathlib.Core.Path.{_≡_}
 use mathlib.Core.List.{List}
 use Rattle.rules.specs.Lent.{Lent}
 use Rattle.rules.specs.Answers.{Outcome, Said, outcome}
@@ -32,32 +32,3 @@ pub record Promises {A S : Type 0} (Asks : Type 0) (Post : A → S → Type 0) (
   -- any two results are equal
   pub answer : (r r′ : A) (s s′ : S) → Post r s → Post r′ s′ → r ≡ r′
   pub words : (r r′ : A) (s s′ : S) → Post r s → Post r′ s′ → Same at s s′
-
--- what an outcome says
-saidOf : Outcome Lent → Said
-saidOf o = record { refusal = o .refusal; counts = o .counts; head = o .after .head }
-
--- a contract that implies one equality with a rule's outcome, where what an answer says tells it apart
-module _ {A S : Type 0} (Post : A → S → Type 0) (say : A → Said) (at : Words S) (Right : Outcome Lent → Type 0) (rule : Outcome Lent) (right : Right rule)
-    (is : (r : A) (s : S) → Post r s → leaving say at r s ≡ rule) where
-  both : (r r′ : A) (s s′ : S) → Post r s → Post r′ s′ → leaving say at r s ≡ leaving say at r′ s′
-  both r r′ s s′ p q = is r s p ∙ sym (is r′ s′ q)
-
-  same-words : (r r′ : A) (s s′ : S) → Post r s → Post r′ s′ → Same at s s′
-  same-words r r′ s s′ p q =
-      let e = both r r′ s s′ p q in
-      record {
-        extents = ap (λ (o : Outcome Lent). o .after .extentWords) e;
-        blocks = ap (λ (o : Outcome Lent). o .after .blockWords) e;
-        spare = ap (λ (o : Outcome Lent). o .after .spare) e;
-        answer = ap (λ (o : Outcome Lent). o .out) e;
-      }
-
-  pub by-rule : ((r r′ : A) (s s′ : S) → Post r s → Post r′ s′ → say r ≡ say r′ → r ≡ r′) → Promises (Unit {0}) Post say at Right
-  unfolding saidOf
-  by-rule tells = record {
-    asks = tt;
-    answers = λ r s p. subst Right (sym (is r s p)) right;
-    answer = λ r r′ s s′ p q. tells r r′ s s′ p q (ap saidOf (both r r′ s s′ p q));
-    words = same-words;
-  }

@@ -17,7 +17,8 @@ use Rattle.rules.specs.declared.Listed.{Listed}
 use Rattle.demands.specs.Demand1.{Answers}
 use Rattle.demands.specs.Proved.{demand-1}
 use Rattle.layer.specs.Told.{listed-one}
-use Rattle.layer.specs.Promises.{Words, leaving, Promises, by-rule}
+use Rattle.layer.specs.Promises.{Words, leaving, Promises}
+use Rattle.layer.specs.ByRule.{by-rule}
 use Rattle.records.proofs.read_records as over-records
 
 -- h, recs, blk, spare, l, n, out; the state is only read

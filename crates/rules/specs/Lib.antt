@@ -13,3 +13,4 @@ pub mod Request
 pub mod Calls
 pub mod Cases
 pub mod Marked
+pub mod MarkedRows
