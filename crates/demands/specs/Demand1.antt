@@ -75,11 +75,11 @@ pub record Answers (c : Call) (s : Lent) (o : Outcome Lent) : Type 0 where
 
 -- ---- fresh, which is given B, N, L and M alone, and words that hold anything
 
-pub record FreshAnswers (b n l m : ℕ) (extents blocks spare : List ℕ) (o : Outcome Lent) : Type 0 where
-  pub refusal : o .refusal ≡ cond (sizes b n l m && lengths b n m (length extents) (length blocks) (length spare)) 0 (number Refusal.Shape)
+pub record FreshAnswers (b n l m : ℕ) (extentWords blockWords spare : List ℕ) (o : Outcome Lent) : Type 0 where
+  pub refusal : o .refusal ≡ cond (sizes b n l m && lengths b n m (length extentWords) (length blockWords) (length spare)) 0 1
   -- refused, its head holds the four sizes as given and zero elsewhere, and no word changes
   pub refused : (o .refusal ≡ 0 → ⊥)
-      → o .after ≡ lent (record { blocks = b; pages = n; logical = l; slots = m; used = 0; reserve = 0; last = 0 }) extents blocks spare
+      → o .after ≡ lent (record { blocks = b; pages = n; logical = l; slots = m; used = 0; reserve = 0; last = 0 }) extentWords blockWords spare
   -- no extents, all slots zero, all fills and valid counts 0, all spare erased, reserve B-1, last number 0
   pub accepted : o .refusal ≡ 0
       → o .after ≡ lent (record { blocks = b; pages = n; logical = l; slots = m; used = 0; reserve = b - 1; last = 0 })
@@ -95,4 +95,5 @@ pub record Demand1 : Type 0 where
   -- report gives free, live and stale
   pub reports : (s : Lent) → call Call.report s .refusal ≡ 0
       → call Call.report s .counts ≡ free (deviceOf s) ∷ live (deviceOf s) ∷ stale (deviceOf s) ∷ []
-  pub freshes : (b n l m : ℕ) (extents blocks spare : List ℕ) → FreshAnswers b n l m extents blocks spare (fresh b n l m extents blocks spare)
+  pub freshes : (b n l m : ℕ) (extentWords blockWords spare : List ℕ)
+      → FreshAnswers b n l m extentWords blockWords spare (fresh b n l m extentWords blockWords spare)

@@ -28,8 +28,8 @@ pub demand-1 : Demand1
 demand-1 = record { numbers = refl; calls = answers; reports = reports; freshes = fresh-answers }
 
 -- from an accepted fresh, whatever words were lent to it, on erased flash
-pub demand-2 : (b n l m : ℕ) (extents blocks spare : List ℕ) → fresh b n l m extents blocks spare .refusal ≡ 0 → (asks : List Ask)
-    → Demand2 (beginFresh (fresh b n l m extents blocks spare .after)) (freshDevice b n l m) asks
+pub demand-2 : (b n l m : ℕ) (extentWords blockWords spare : List ℕ) → fresh b n l m extentWords blockWords spare .refusal ≡ 0 → (asks : List Ask)
+    → Demand2 (beginFresh (fresh b n l m extentWords blockWords spare .after)) (freshDevice b n l m) asks
 unfolding beginFresh
 demand-2 b n l m es bs ss e asks =
     let p = fresh-leaves b n l m es bs ss e in

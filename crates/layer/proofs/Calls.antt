@@ -35,8 +35,8 @@ use Rattle.layer.proofs.report.Reads as report-contract
 module _ (κs : Lfts 3) (a : Dens κs Fresh.ps) where
   abbrev pub fresh-words : Words (AtExit (endedOf 3 Fresh.ps Fresh.r) κs)
   fresh-words = record {
-    extents = λ s. now (s .1 .1 .1 .1 .0);
-    blocks = λ s. now (s .1 .1 .1 .1 .1 .0);
+    extentWords = λ s. now (s .1 .1 .1 .1 .0);
+    blockWords = λ s. now (s .1 .1 .1 .1 .1 .0);
     spare = λ s. now (s .1 .1 .1 .1 .1 .1 .0);
     answer = λ s. [];
   }
@@ -58,8 +58,8 @@ module _ (κs : Lfts 3) (a : Dens κs Fresh.ps) where
 module _ (κs : Lfts 4) (a : Dens κs Write.ps) where
   abbrev pub write-words : Words (AtExit (endedOf 4 Write.ps Write.r) κs)
   write-words = record {
-    extents = λ s. now (s .1 .0);
-    blocks = λ s. now (s .1 .1 .0);
+    extentWords = λ s. now (s .1 .0);
+    blockWords = λ s. now (s .1 .1 .0);
     spare = λ s. now (s .1 .1 .1 .0);
     answer = λ s. now (s .1 .1 .1 .1 .1 .1 .1 .0);
   }
@@ -78,7 +78,7 @@ module _ (κs : Lfts 4) (a : Dens κs Write.ps) where
 -- h, ext, blk, spare, number, l, n; spare is only read
 module _ (κs : Lfts 3) (a : Dens κs Trim.ps) where
   abbrev pub trim-words : Words (AtExit (endedOf 3 Trim.ps Trim.r) κs)
-  trim-words = record { extents = λ s. now (s .1 .0); blocks = λ s. now (s .1 .1 .0); spare = λ s. now (a .1 .1 .1 .0); answer = λ s. [] }
+  trim-words = record { extentWords = λ s. now (s .1 .0); blockWords = λ s. now (s .1 .1 .0); spare = λ s. now (a .1 .1 .1 .0); answer = λ s. [] }
 
   abbrev pub trims : Call
   trims = Call.trim (a .1 .1 .1 .1 .0) (a .1 .1 .1 .1 .1 .0) (a .1 .1 .1 .1 .1 .1 .0)
@@ -95,8 +95,8 @@ module _ (κs : Lfts 3) (a : Dens κs Trim.ps) where
 module _ (κs : Lfts 4) (a : Dens κs Read.ps) where
   abbrev pub read-words : Words (AtExit (endedOf 4 Read.ps Read.r) κs)
   read-words = record {
-    extents = λ s. now (a .1 .0);
-    blocks = λ s. now (a .1 .1 .0);
+    extentWords = λ s. now (a .1 .0);
+    blockWords = λ s. now (a .1 .1 .0);
     spare = λ s. now (a .1 .1 .1 .0);
     answer = λ s. now (s .1 .1 .1 .1 .1 .1 .0);
   }
@@ -116,8 +116,8 @@ module _ (κs : Lfts 4) (a : Dens κs Read.ps) where
 module _ (κs : Lfts 4) (a : Dens κs Reclaim.ps) where
   abbrev pub reclaim-words : Words (AtExit (endedOf 4 Reclaim.ps Reclaim.r) κs)
   reclaim-words = record {
-    extents = λ s. now (s .1 .0);
-    blocks = λ s. now (s .1 .1 .0);
+    extentWords = λ s. now (s .1 .0);
+    blockWords = λ s. now (s .1 .1 .0);
     spare = λ s. now (s .1 .1 .1 .0);
     answer = λ s. now (s .1 .1 .1 .1 .0);
   }
@@ -136,7 +136,7 @@ module _ (κs : Lfts 4) (a : Dens κs Reclaim.ps) where
 -- h, ext, blk, spare; the state is only read
 module _ (κs : Lfts 3) (a : Dens κs Report.ps) where
   abbrev pub report-words : Words (AtExit (endedOf 3 Report.ps Report.r) κs)
-  report-words = record { extents = λ s. now (a .1 .0); blocks = λ s. now (a .1 .1 .0); spare = λ s. now (a .1 .1 .1 .0); answer = λ s. [] }
+  report-words = record { extentWords = λ s. now (a .1 .0); blockWords = λ s. now (a .1 .1 .0); spare = λ s. now (a .1 .1 .1 .0); answer = λ s. [] }
 
   abbrev pub reports-on : Lent
   reports-on = lent (a .0) (now (a .1 .0)) (now (a .1 .1 .0)) (now (a .1 .1 .1 .0))

@@ -18,8 +18,8 @@ module _ {A S : Type 0} (Post : A → S → Type 0) (say : A → Said) (at : Wor
   same-words r r′ s s′ p q =
       let e = both r r′ s s′ p q in
       record {
-        extents = ap (λ (o : Outcome Lent). o .after .extentWords) e;
-        blocks = ap (λ (o : Outcome Lent). o .after .blockWords) e;
+        extentWords = ap (λ (o : Outcome Lent). o .after .extentWords) e;
+        blockWords = ap (λ (o : Outcome Lent). o .after .blockWords) e;
         spare = ap (λ (o : Outcome Lent). o .after .spare) e;
         answer = ap (λ (o : Outcome Lent). o .out) e;
       }

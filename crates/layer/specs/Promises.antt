@@ -8,19 +8,19 @@ use Rattle.rules.specs.Answers.{Outcome, Said, outcome}
 
 -- where the lent words are found in what a call leaves behind, S: those at exit, and those at entry of a buffer that is only read; [] where there is none
 pub record Words (S : Type 0) : Type 0 where
-  pub extents : S → List ℕ
-  pub blocks : S → List ℕ
+  pub extentWords : S → List ℕ
+  pub blockWords : S → List ℕ
   pub spare : S → List ℕ
   pub answer : S → List ℕ
 
 -- the outcome that answer r and the words in s are
 abbrev pub leaving : {A S : Type 0} → (A → Said) → Words S → A → S → Outcome Lent
-leaving say at r s = outcome (say r) (at .extents s) (at .blocks s) (at .spare s) (at .answer s)
+leaving say at r s = outcome (say r) (at .extentWords s) (at .blockWords s) (at .spare s) (at .answer s)
 
 -- the same words in s and in t
 pub record Same {S : Type 0} (at : Words S) (s t : S) : Type 0 where
-  pub extents : at .extents s ≡ at .extents t
-  pub blocks : at .blocks s ≡ at .blocks t
+  pub extentWords : at .extentWords s ≡ at .extentWords t
+  pub blockWords : at .blockWords s ≡ at .blockWords t
   pub spare : at .spare s ≡ at .spare t
   pub answer : at .answer s ≡ at .answer t
 

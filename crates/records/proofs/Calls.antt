@@ -25,8 +25,8 @@ use Rattle.records.proofs.read_records as over-records
 module _ (κs : Lfts 4) (a : Args over-records.signature κs) where
   abbrev pub record-words : Words (AtExit over-records.ended κs)
   record-words = record {
-    extents = λ s. flat (now (a .1 .0));
-    blocks = λ s. now (a .1 .1 .0);
+    extentWords = λ s. flat (now (a .1 .0));
+    blockWords = λ s. now (a .1 .1 .0);
     spare = λ s. now (a .1 .1 .1 .0);
     answer = λ s. now (s .1 .1 .1 .1 .1 .1 .0);
   }

@@ -59,9 +59,9 @@ counted (Counted.Refused r h) = said (number r) (0 ∷ 0 ∷ 0 ∷ []) h
 
 -- an answer and the words as they are afterwards
 abbrev pub outcome : Said → List ℕ → List ℕ → List ℕ → List ℕ → Outcome Lent
-outcome a extents blocks spare out = record {
+outcome a extentWords blockWords spare out = record {
   refusal = a .refusal;
   counts = a .counts;
-  after = record { head = a .head; extentWords = extents; blockWords = blocks; spare = spare };
+  after = record { head = a .head; extentWords = extentWords; blockWords = blockWords; spare = spare };
   out = out;
 }

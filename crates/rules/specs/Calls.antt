@@ -171,12 +171,12 @@ sizesOnly b n l m = record { blocks = b; pages = n; logical = l; slots = m; used
 
 -- fresh is given B, N, L and M alone, tests only these and the lengths, and takes no heed of old contents
 unfoldable pub fresh : ℕ → ℕ → ℕ → ℕ → List ℕ → List ℕ → List ℕ → Outcome Lent
-fresh b n l m extents blocks spare =
-    cond (sizes b n l m && lengths b n m (length extents) (length blocks) (length spare))
+fresh b n l m extentWords blockWords spare =
+    cond (sizes b n l m && lengths b n m (length extentWords) (length blockWords) (length spare))
     (record { refusal = 0; counts = []; after = wordsOf (freshDevice b n l m); out = [] })
     (record {
       refusal = number Refusal.Shape;
       counts = [];
-      after = record { head = sizesOnly b n l m; extentWords = extents; blockWords = blocks; spare = spare };
+      after = record { head = sizesOnly b n l m; extentWords = extentWords; blockWords = blockWords; spare = spare };
       out = [];
     })

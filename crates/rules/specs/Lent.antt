@@ -19,7 +19,7 @@ pub record Lent : Type 0 where
   pub spare : List ℕ
 
 abbrev pub lent : Head → List ℕ → List ℕ → List ℕ → Lent
-lent h extents blocks spare = record { head = h; extentWords = extents; blockWords = blocks; spare = spare }
+lent h extentWords blockWords spare = record { head = h; extentWords = extentWords; blockWords = blockWords; spare = spare }
 
 -- extent slot i
 abbrev pub slotOf : Lent → ℕ → Extent

@@ -17,12 +17,12 @@ sizes b n l m =
 
 -- 01, Numbers: each length exact: extents 3M, blocks 2B, spare B x N
 unfoldable pub lengths : ℕ → ℕ → ℕ → ℕ → ℕ → ℕ → Bool
-lengths b n m extents blocks spare = eqb extents (3 * m) && eqb blocks (stride * b) && eqb spare (b * n)
+lengths b n m ofExtents ofBlocks ofSpare = eqb ofExtents (3 * m) && eqb ofBlocks (stride * b) && eqb ofSpare (b * n)
 
 unfoldable pub shape : Head → ℕ → ℕ → ℕ → Bool
-shape h extents blocks spare =
+shape h ofExtents ofBlocks ofSpare =
     sizes (h .blocks) (h .pages) (h .logical) (h .slots)
-    && lengths (h .blocks) (h .pages) (h .slots) extents blocks spare
+    && lengths (h .blocks) (h .pages) (h .slots) ofExtents ofBlocks ofSpare
 
 unfoldable pub shaped : Lent → Bool
 shaped s = shape (s .head) (length (s .extentWords)) (length (s .blockWords)) (length (s .spare))
