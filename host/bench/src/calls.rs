@@ -42,16 +42,18 @@ enum Call {
     Report,
     Read,
     ReadAll,
+    ReadRecords,
     Write,
     Trim,
     Reclaim,
     Fresh,
 }
 
-const CALLS: [(Call, &str); 7] = [
+const CALLS: [(Call, &str); 8] = [
     (Call::Report, "report"),
     (Call::Read, "read of 48 pages"),
     (Call::ReadAll, "read of all pages"),
+    (Call::ReadRecords, "read of 48 pages over records"),
     (Call::Write, "write of 48 pages"),
     (Call::Trim, "trim of 48 pages"),
     (Call::Reclaim, "reclaim"),
@@ -88,7 +90,7 @@ impl Lent {
         let Lent { words, answer, .. } = self;
         match call {
             Call::Report => Plain.report(head, words).refusal,
-            Call::Read => Plain.read(head, words, middle, COUNT, answer).refusal,
+            Call::Read | Call::ReadRecords => Plain.read(head, words, middle, COUNT, answer).refusal,
             Call::ReadAll => Plain.read(head, words, 0, head.logical, answer).refusal,
             Call::Write => Plain.write(head, words, head.last + 1, middle, COUNT, answer).refusal,
             Call::Trim => Plain.trim(head, words, head.last + 1, middle, COUNT).refusal,
@@ -105,12 +107,17 @@ impl Lent {
         let Words { extents: e, blocks: b, spare: s } = &mut self.words;
         let (el, bl, sl, al) = (e.len(), b.len(), s.len(), self.answer.len());
         let (e, b, s, a) = (e.as_mut_ptr(), b.as_mut_ptr(), s.as_mut_ptr(), self.answer.as_mut_ptr());
-        // Safety: the buffers are four vectors with their own lengths.
+        // Safety: the buffers are four vectors with their own lengths; a record is three words.
         unsafe {
             match call {
                 Call::Report => ffi::utasiro_report(head, e, el, b, bl, s, sl).refusal,
                 Call::Read => ffi::utasiro_read(head, e, el, b, bl, s, sl, middle, COUNT, a, al).refusal,
                 Call::ReadAll => ffi::utasiro_read(head, e, el, b, bl, s, sl, 0, logical, a, al).refusal,
+                Call::ReadRecords => {
+                    let records = e.cast_const().cast();
+                    ffi::utasiro_read_records(head, records, el / 3, b, bl, s, sl, middle, COUNT, a, al)
+                        .refusal
+                }
                 Call::Write => {
                     ffi::utasiro_write(head, e, el, b, bl, s, sl, last + 1, middle, COUNT, a, al).refusal
                 }
