@@ -13,7 +13,8 @@ use Rattle.demands.specs.Demand1.{Answers}
 use Rattle.demands.specs.Proved.{demand-1}
 use Rattle.layer.specs.Promises.{leaving, Promises}
 use Rattle.layer.specs.ByRule.{by-rule}
-use Rattle.layer.proofs.Calls.{fresh-words, FreshRight, freshly, fresh-right, write-words, writes, writes-to, trim-words, trims, trims-to, read-words, reads, reads-from, reclaim-words, reclaims, reclaims-in, report-words, reports-on}
+use Rattle.layer.proofs.Calls.{fresh-words, FreshRight, freshly, fresh-right, write-words, writes, writes-to}
+use Rattle.layer.proofs.Calls.{trim-words, trims, trims-to, read-words, reads, reads-from, reclaim-words, reclaims, reclaims-in, report-words, reports-on}
 use Rattle.records.proofs.Calls.{record-words, reads-records, records-from}
 use Rattle.abi.specs.declared.Outcome.{Outcome}
 use Rattle.abi.specs.Said.{ofDone, ofListed, ofCounts}

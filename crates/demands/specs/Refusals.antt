@@ -19,7 +19,8 @@ use Rattle.rules.specs.Reclaim.{victim, sources, reclaimedAt, reclaimed}
 use Rattle.rules.specs.Read.{found}
 use Rattle.rules.specs.Request.{applied, judged, withTable, numbered, written, trimmed}
 use Rattle.rules.specs.Answers.{Outcome, number, refuse}
-use Rattle.rules.specs.Calls.{Call, outside, tooMany, writeRefusal, trimRefusal, readRefusal, reclaimRefusal, refusal, counts, leaves, lists, buffer, over, zeros, refused, verdict, acceptedOn, call, freshDevice, sizesOnly, fresh}
+use Rattle.rules.specs.Calls.{Call, outside, tooMany, writeRefusal, trimRefusal, readRefusal, reclaimRefusal}
+use Rattle.rules.specs.Calls.{refusal, counts, leaves, lists, buffer, over, zeros, refused, verdict, acceptedOn, call, freshDevice, sizesOnly, fresh}
 use Rattle.rules.specs.declared.Refusal.{Refusal}
 use Rattle.laws.specs.Bools.{and-split}
 use Rattle.laws.specs.Cells.{replicate-at}

@@ -18,7 +18,8 @@ use Rattle.rules.specs.Reclaim.{victim, sources, goes, copied, moved, reclaimed
 use Rattle.rules.specs.Read.{withHole, withHoles, found}
 use Rattle.rules.specs.Request.{applied, judged, withTable, numbered, written, trimmed}
 use Rattle.rules.specs.Answers.{refuse}
-use Rattle.rules.specs.Calls.{Call, outside, tooMany, writeRefusal, trimRefusal, readRefusal, reclaimRefusal, refusal, counts, leaves, lists, over, refused, verdict, acceptedOn, call, freshDevice, sizesOnly, fresh}
+use Rattle.rules.specs.Calls.{Call, outside, tooMany, writeRefusal, trimRefusal, readRefusal, reclaimRefusal}
+use Rattle.rules.specs.Calls.{refusal, counts, leaves, lists, over, refused, verdict, acceptedOn, call, freshDevice, sizesOnly, fresh}
 use Rattle.laws.specs.Cells.{replicate-at}
 use Rattle.demands.specs.Flash.{Cell, erased, see}
 use Rattle.demands.specs.Host.{Ask, Op, programs, copies, toDo, ops, does, doing, marks, marking, shown, reads, World, step, run, ErasedFromFill, begin}

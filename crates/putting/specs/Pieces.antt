@@ -171,7 +171,10 @@ module _ (ws : List ℕ) (u i : ℕ) (new : List ℕ) (s : ℕ) (h : Holds ws u)
         ∙ ap (λ (xs : List Extent). spliced i xs es) (sym (slots-more new s d (s + d) refl)))
 
     pub splice-end : (k r : ℕ) → d ≡ k → r ≡ u + k → Becomes (length ws) (spliced i (slotsFrom new s k) es) mid r
-    splice-end k r p q = record { is = g ∙ ap (λ (j : ℕ). padded (length ws) (spliced i (slotsFrom new s j) es)) p; used = omega (arith, count, ap (λ (j : ℕ). length (spliced i (slotsFrom new s j) es)) p) }
+    splice-end k r p q = record {
+      is = g ∙ ap (λ (j : ℕ). padded (length ws) (spliced i (slotsFrom new s j) es)) p;
+      used = omega (arith, count, ap (λ (j : ℕ). length (spliced i (slotsFrom new s j) es)) p);
+    }
 
 -- the extent before slot i with c pages more
 pub lengthened-set : (ws : List ℕ) (u i c : ℕ) (ws′ : List ℕ) → 1 ≤ i → i ≤ u

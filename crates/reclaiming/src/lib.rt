@@ -169,7 +169,8 @@ fn push_slot(ext: &mut [u32], w: usize, x: Extent, n: u32) -> usize
 // The map afterwards, each slot moved and joined from the left, and zeros behind them: how many extents it has.
 pub fn move_map(ext: &mut [u32], used: usize, n: u32, v: u32, r: u32, ranks: &[u32]) -> usize
     requires { ⌜ (3 * used ≤ length (now ext)) × (1 ≤ n) × (r * n + n ≤ none) × Ranks n (covered (slotsFrom (now ext) 0 used) n v) (now ranks) × Ends (now ext) used ⌝ }
-    ensures { λ w. ⌜ (w ≡ length (remapped n v r (slotsFrom (now (ext .entry)) 0 used))) × (now (ext .exit) ≡ laid (remapped n v r (slotsFrom (now (ext .entry)) 0 used)) (length (now (ext .entry)))) ⌝ }
+    ensures { λ w. ⌜ (w ≡ length (remapped n v r (slotsFrom (now (ext .entry)) 0 used)))
+        × (now (ext .exit) ≡ laid (remapped n v r (slotsFrom (now (ext .entry)) 0 used)) (length (now (ext .entry)))) ⌝ }
 {
     let mut w: usize = 0;
     let mut i: usize = 0;

@@ -50,4 +50,5 @@ module _ (κs : Lfts 4) (a : Args over-records.signature κs) where
 
   pub read-records-promises : Promises (Unit {0}) Post listed record-words (Answers reads-records records-from)
   read-records-promises =
-      by-rule Post listed record-words (Answers reads-records records-from) (call reads-records records-from) (demand-1 .calls reads-records records-from) (λ r s p. p) (λ r r′ s s′ p q. listed-one r r′)
+      by-rule Post listed record-words (Answers reads-records records-from) (call reads-records records-from) (demand-1 .calls reads-records records-from)
+      (λ r s p. p) (λ r r′ s s′ p q. listed-one r r′)

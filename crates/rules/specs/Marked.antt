@@ -15,7 +15,8 @@ use Rattle.rules.specs.Reclaim.{victim, sources, goes, copied, moved, re
 use Rattle.rules.specs.Read.{withHole, withHoles, found}
 use Rattle.rules.specs.Request.{applied, judged, withTable, numbered, written, trimmed}
 use Rattle.rules.specs.Answers.{refuse}
-use Rattle.rules.specs.Calls.{Call, outside, tooMany, writeRefusal, trimRefusal, readRefusal, reclaimRefusal, refusal, counts, leaves, lists, over, refused, verdict, acceptedOn, call, freshDevice, sizesOnly, fresh}
+use Rattle.rules.specs.Calls.{Call, outside, tooMany, writeRefusal, trimRefusal, readRefusal, reclaimRefusal}
+use Rattle.rules.specs.Calls.{refusal, counts, leaves, lists, over, refused, verdict, acceptedOn, call, freshDevice, sizesOnly, fresh}
 use Rattle.rules.specs.Cases.{Case, Expect, Look, expect, told, lookAt, next, afterAll, seen, start, comes, musts, same, sames, holds}
 
 -- ---- the requests of the cases, with answer buffers of 48 words

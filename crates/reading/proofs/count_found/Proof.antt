@@ -11,7 +11,8 @@ use Rattle.reading.proofs.count_found.Statement.{statement}
 use Rattle.reading.proofs.count_found.Tie as tie
 
 abbrev Inv-loop : tie.InvT-loop
-Inv-loop ext used l e count₀ pos₀ i₀ count pos i = (i ≤ used) × (pos ≤ e) × (count ≤ 2 * i) × (length (between l e (slotsFrom ext 0 used)) ≡ count + length (between pos e (slotsFrom ext i (used - i))))
+Inv-loop ext used l e count₀ pos₀ i₀ count pos i =
+    (i ≤ used) × (pos ≤ e) × (count ≤ 2 * i) × (length (between l e (slotsFrom ext 0 used)) ≡ count + length (between pos e (slotsFrom ext i (used - i))))
 
 abbrev μ-loop : tie.MeasureT-loop
 μ-loop ext used l e count₀ pos₀ i₀ count pos i = used - i
