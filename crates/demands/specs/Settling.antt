@@ -229,7 +229,8 @@ wide (suc k) outs w d e g r = λ y.
           (λ i. omega (arith, r (suc i), reclaim-all d (g .sound) (omega arith) .pages)),
     )
 
-pub wide-enough : (s : Lent) → shaped s ≡ true → sound s ≡ true → (f : List Cell) (k : ℕ) (outs : ℕ → List ℕ) → ((i : ℕ) → s .head .pages ≤ length (outs i)) → Way Roomy k outs (begin s f)
+pub wide-enough : (s : Lent) → shaped s ≡ true → sound s ≡ true → (f : List Cell) (k : ℕ) (outs : ℕ → List ℕ) → ((i : ℕ) → s .head .pages ≤ length (outs i))
+    → Way Roomy k outs (begin s f)
 unfolding begin deviceOf
 wide-enough s z e f k outs r = wide k outs (begin s f) (deviceOf s) (sym (device-is s z e)) (device-good s z e) r
 

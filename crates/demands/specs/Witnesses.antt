@@ -1,29 +1,24 @@
 -- The hypotheses of the theorems can be met, and what they speak of happens: by computing, on the device of P3 and on the smallest one.
-use Prim.Native.Nat.{ℕ, _+_, _*_, _≤_, _<_}
+use Prim.Native.Nat.{ℕ, _+_, _-_, _*_, _^_, _≤_, _<_}
 use mathlib.Core.Bool.{Bool, true, false}
 use mathlib.Core.Path.{_≡_, refl}
 use mathlib.Core.List.{List, [], _∷_, _++_}
 use mathlib.Core.Logic.{inl}
 use native.Mathlib.Omega.{arith}
 use lib.ListN.{length, getD, take, drop, replicate}
-use Rattle.rules.specs.Counting.{sum, count, all, first, most, picks, tabulate, among}
-use Rattle.rules.specs.Extents.{lookup, joinable, join, runs, slotsFrom, flat}
-use Rattle.rules.specs.Blocks.{stride, records}
+use Rattle.rules.specs.Blocks.{stride}
 use Rattle.rules.specs.Lent.{Lent, lent}
-use Rattle.rules.specs.Shape.{sizes, lengths, shape, shaped}
-use Rattle.rules.specs.Sound.{rule1, rule2, rule3, rule4, mappedIn, rule5, rule6, sound}
-use Rattle.rules.specs.Device.{mapped, named, valid, staleIn, stale, live, room, free, extents, tableOf, deviceOf, headOf, wordsOf}
-use Rattle.rules.specs.Placement.{putAt, putsAt, placesAt, target, targets, puts, places, pieces}
-use Rattle.rules.specs.Reclaim.{victim, sources, goes, copied, moved, reclaimedAt, reclaimed}
-use Rattle.rules.specs.Read.{withHole, withHoles, found}
-use Rattle.rules.specs.Request.{applied, judged, withTable, numbered, written, trimmed}
-use Rattle.rules.specs.Answers.{refuse}
-use Rattle.rules.specs.Calls.{Call, outside, tooMany, writeRefusal, trimRefusal, readRefusal, reclaimRefusal}
-use Rattle.rules.specs.Calls.{refusal, counts, leaves, lists, over, refused, verdict, acceptedOn, call, freshDevice, sizesOnly, fresh}
+use Rattle.rules.specs.Shape.{shaped}
+use Rattle.rules.specs.Sound.{sound}
+use Rattle.rules.specs.Calls.{Call, call, sizesOnly, fresh}
+use Rattle.rules.specs.Opened.{opened}
+use Rattle.rules.specs.declared.Head.{Head}
+use Rattle.rules.specs.declared.Refusal.{Refusal}
 use Rattle.laws.specs.Cells.{replicate-at}
 use Rattle.demands.specs.Flash.{Cell, erased, see}
 use Rattle.demands.specs.Host.{Ask, Op, programs, copies, toDo, ops, does, doing, marks, marking, shown, reads, World, step, run, ErasedFromFill, begin}
-use Rattle.demands.specs.Requests.{carries, numberOf}
+use Rattle.demands.specs.Requests.{carries}
+use Rattle.demands.specs.Demand1.{given}
 use Rattle.demands.specs.Demand2.{trace, beginFresh}
 use Rattle.demands.specs.Demand3.{Asked, LongEnough, staleOf, until, times, Way, Roomy}
 use Rattle.demands.specs.Once.{repeats, noted, once}
@@ -74,9 +69,13 @@ refusals =
     ∷ call (Call.reclaim []) small .refusal
     ∷ call Call.report small .refusal ∷ []
 
+-- a fresh device whose last number is the largest
+abbrev worn : Lent
+worn = lent (record { blocks = 3; pages = 1; logical = 1; slots = 1; used = 0; reserve = 2; last = 2 ^ 64 - 1 }) (small .extentWords) (small .blockWords) (small .spare)
+
 pub record Met : Type 0 where
   -- demand 1: each refusal is given somewhere, and a call is accepted
-  pub given : refusals ≡ 1 ∷ 2 ∷ 3 ∷ 4 ∷ 5 ∷ 6 ∷ 7 ∷ 8 ∷ 0 ∷ []
+  pub each-given : refusals ≡ 1 ∷ 2 ∷ 3 ∷ 4 ∷ 5 ∷ 6 ∷ 7 ∷ 8 ∷ 0 ∷ []
   -- demand 2: an accepted fresh on words that held something else, and a page that is programmed twice, its block erased in between
   pub fresh-accepted : fresh 3 1 1 1 (replicate 3 7) (replicate (stride * 3) 7) (replicate 3 7) .refusal ≡ 0
   pub page-again : trace (write 1 0 1 (10 ∷ []) ∷ write 2 0 1 (20 ∷ []) ∷ reclaim ∷ write 3 0 1 (30 ∷ []) ∷ reclaim ∷ write 4 0 1 (40 ∷ []) ∷ []) (started 3 1 1 1)
@@ -87,36 +86,34 @@ pub record Met : Type 0 where
   pub is-erased : ErasedFromFill sound3 blank
   -- demand 3: a write of 7 pages, since 8 + 7 + 1 extents fit in 16 slots; one reclaim is made, whose answer just fits, and so does the write's
   pub asked : Asked (sound3 .head) 8 0 7
+  pub limit : sound3 .head .blocks - 1 ≤ 3
   pub roomy : Way Roomy 3 tens (begin sound3 blank)
   pub one-reclaim : times 3 tens (begin sound3 blank) ≡ 1
   pub enough : LongEnough (Call.write 8 0 7 (replicate 3 0)) (until 3 tens (begin sound3 blank) .state)
-  -- the double refund: the last request of P3 is accepted; of P4's requests three repeat
+  -- the double refund: the last request of P3 carries a number and is accepted; of P4's requests three repeat; a state whose last number is the largest
   pub accepted : call (Call.write 7 9 1 (replicate 48 0)) (run (take 6 p3) (started 4 16 32 16) .state) .refusal ≡ 0
+  pub carried : carries (Call.write 7 9 1 (replicate 48 0)) ≡ true
+  pub largest : (shaped worn ≡ true) × (sound worn ≡ true) × (worn .head .last ≡ 2 ^ 64 - 1) × (given (Call.write 7 0 1 []) worn Refusal.Range ≡ false)
   pub repeated : once [] (drop 6 p3 ++ p4) (run (take 6 p3) (started 4 16 32 16)) ≡ write 7 9 1 [] ∷ reclaim ∷ write 8 0 1 [] ∷ []
 
 pub met : Met
-unfolding sum count all first most picks tabulate among
-    lookup joinable join runs slotsFrom flat records sizes lengths shape shaped
-    rule1 rule2 rule3 rule4 mappedIn rule5 rule6 sound
-    mapped named valid staleIn stale live room free extents tableOf deviceOf headOf wordsOf
-    putAt putsAt placesAt target targets puts places pieces
-    victim sources goes copied moved reclaimedAt reclaimed withHole withHoles found
-    applied judged withTable numbered written trimmed refuse
-    outside tooMany writeRefusal trimRefusal readRefusal reclaimRefusal refusal counts leaves lists over refused
-    verdict acceptedOn call freshDevice sizesOnly fresh
+unfolding opened
     programs copies toDo ops does doing marks marking shown reads see step run begin trace beginFresh
     staleOf until times repeats noted once
 met = record {
-  given = refl;
+  each-given = refl;
   fresh-accepted = refl;
   page-again = refl;
   is-shaped = refl;
   is-sound = refl;
   is-erased = record { whole = refl; blank = λ b o h k i. replicate-at Cell.erased 64 (b * 16 + o) };
   asked = record { some = omega arith; block = omega arith; inside = omega arith; newer = omega arith; slots = inl (omega arith) };
+  limit = omega arith;
   roomy = λ y. (omega arith, λ z. absurd (z refl));
   one-reclaim = refl;
   enough = omega arith;
   accepted = refl;
+  carried = refl;
+  largest = (refl, refl, refl, refl);
   repeated = refl;
 }

@@ -11,6 +11,7 @@ pub mod Read
 pub mod Answers
 pub mod Request
 pub mod Calls
+pub mod Opened
 pub mod Cases
 pub mod Marked
 pub mod MarkedRows

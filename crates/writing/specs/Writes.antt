@@ -98,7 +98,8 @@ module _ (k l n : ℕ) (out : List ℕ) (s : Lent) (z : Ready (Call.write k l n 
 
       ext-length : length ext ≡ length (s .extentWords)
       ext-length =
-          became-length (length (s .extentWords)) (cut l (l + n) (inUse s)) ext u (w .map .is) (sym (w .map .used)) (omega (arith, held-used, grows l n s writes m e, some-pieces, one-le (m .joined), z .taken .nodes, slots-same, z .shape .extents))
+          became-length (length (s .extentWords)) (cut l (l + n) (inUse s)) ext u (w .map .is) (sym (w .map .used))
+          (omega (arith, held-used, grows l n s writes m e, some-pieces, one-le (m .joined), z .taken .nodes, slots-same, z .shape .extents))
 
       small : 3 * u ≤ length (s .extentWords)
       small = omega (arith, held-used, grows l n s writes m e, some-pieces, one-le (m .joined), z .taken .nodes, slots-same, z .shape .extents)

@@ -18,10 +18,15 @@ slice-aggregate-add-up : tie.Need-slice-aggregate-add-up
 slice-aggregate-add-up c = search needs
 
 add-up-requires : tie.Need-add-up-requires
-add-up-requires c κs = (omega arith, omega arith, λ o h. omega (arith, c .before .before .mark-slots .ensures o h, one-le (covered (slotsFrom (c .before .before .before .before .before .args .ext .now) 0 (c .before .before .before .before .before .args .used)) (c .before .before .before .before .before .args .n) (c .before .before .before .before .before .args .v) o)))
+add-up-requires c κs =
+    let v = c .before .before .before .before .before .args in
+    (omega arith, omega arith, λ o h. omega (arith, c .before .before .mark-slots .ensures o h, one-le (covered (slotsFrom (v .ext .now) 0 (v .used)) (v .n) (v .v) o)))
 
 returns : tie.Need-returns
-returns c = marks-ranks (c .before .before .before .before .before .before .before .args .ext .now) (c .before .before .before .before .before .before .before .args .used) (c .before .before .before .before .before .before .before .args .n) (c .before .before .before .before .before .before .before .args .v) (c .before .before .before .before .mark-slots .last .0) (c .before .add-up .last .0) (omega arith) (c .before .before .before .before .mark-slots .ensures) (c .before .add-up .ensures)
+returns c =
+    let v = c .before .before .before .before .before .before .before .args in
+    let marked = c .before .before .before .before in
+    marks-ranks (v .ext .now) (v .used) (v .n) (v .v) (marked .mark-slots .last .0) (c .before .add-up .last .0) (omega arith) (marked .mark-slots .ensures) (c .before .add-up .ensures)
 
 pub ranks-of-spec : {M : Type 1} → statement M
 ranks-of-spec =

@@ -1,4 +1,5 @@
-use Prim.Native.Nat.{_+_, _-_, _≤_}
+use Prim.Native.Nat.{ℕ, _+_, _-_, _≤_}
+use mathlib.Core.Bool.{Bool}
 use mathlib.Core.Path.{_≡_, ap, ap₂, _∙_}
 use mathlib.Core.Logic.{⊎-elim}
 use Rattle.rules.specs.Counting.{one, count}
@@ -18,30 +19,42 @@ Inv-loop ext used n v r ranks k₀ i₀ k i = (i ≤ used - 1) × (k + count i (
 abbrev μ-loop : tie.MeasureT-loop
 μ-loop ext used n v r ranks k₀ i₀ k i = used - i
 
--- no more are joined than were looked at
-few : (c : tie.After-joins Inv-loop μ-loop) → count (c .before .before .before .before .loop .i) (joinsAfter (c .before .before .before .before .before .before .before .args .n) (c .before .before .before .before .before .before .before .args .ranks .now) (c .before .before .before .before .before .before .before .args .v) (c .before .before .before .before .before .before .before .args .r) (c .before .before .before .before .before .before .before .args .ext .now)) ≤ c .before .before .before .before .loop .i
-few c = count-le (c .before .before .before .before .loop .i) (joinsAfter (c .before .before .before .before .before .before .before .args .n) (c .before .before .before .before .before .before .before .args .ranks .now) (c .before .before .before .before .before .before .before .args .v) (c .before .before .before .before .before .before .before .args .r) (c .before .before .before .before .before .before .before .args .ext .now))
+abbrev start : tie.After-joins Inv-loop μ-loop → tie.Start Inv-loop μ-loop
+start c = c .before .before .before .before .before .before .before
 
-next : (c : tie.After-joins Inv-loop μ-loop) → count (c .before .before .before .before .loop .i + 1) (joinsAfter (c .before .before .before .before .before .before .before .args .n) (c .before .before .before .before .before .before .before .args .ranks .now) (c .before .before .before .before .before .before .before .args .v) (c .before .before .before .before .before .before .before .args .r) (c .before .before .before .before .before .before .before .args .ext .now))
-    ≡ count (c .before .before .before .before .loop .i) (joinsAfter (c .before .before .before .before .before .before .before .args .n) (c .before .before .before .before .before .before .before .args .ranks .now) (c .before .before .before .before .before .before .before .args .v) (c .before .before .before .before .before .before .before .args .r) (c .before .before .before .before .before .before .before .args .ext .now)) + one (c .joins .result)
+-- slot j and the next are joined once their pages have moved
+abbrev joined : tie.Start Inv-loop μ-loop → ℕ → Bool
+joined s = joinsAfter (s .args .n) (s .args .ranks .now) (s .args .v) (s .args .r) (s .args .ext .now)
+
+-- no more are joined than were looked at
+few : (c : tie.After-joins Inv-loop μ-loop) → let i = c .before .before .before .before .loop .i in count i (joined (start c)) ≤ i
+few c = count-le (c .before .before .before .before .loop .i) (joined (start c))
+
+next : (c : tie.After-joins Inv-loop μ-loop) → let i = c .before .before .before .before .loop .i in count (i + 1) (joined (start c)) ≡ count i (joined (start c)) + one (c .joins .result)
 next c =
-    count-next (joinsAfter (c .before .before .before .before .before .before .before .args .n) (c .before .before .before .before .before .before .before .args .ranks .now) (c .before .before .before .before .before .before .before .args .v) (c .before .before .before .before .before .before .before .args .r) (c .before .before .before .before .before .before .before .args .ext .now)) (c .before .before .before .before .loop .i) (c .joins .result)
-    (c .joins .ensures ∙ ap₂ (joinable (c .before .before .before .before .before .before .before .args .n)) (c .before .before .slot-after .ensures) (c .before .slot-after2 .ensures))
+    count-next (joined (start c)) (c .before .before .before .before .loop .i) (c .joins .result)
+    (c .joins .ensures ∙ ap₂ (joinable (start c .args .n)) (c .before .before .slot-after .ensures) (c .before .slot-after2 .ensures))
 
 loop-holds : tie.Need-loop-holds Inv-loop μ-loop
-loop-holds c = (search needs, omega (arith, count-start (joinsAfter (c .before .before .args .n) (c .before .before .args .ranks .now) (c .before .before .args .v) (c .before .before .args .r) (c .before .before .args .ext .now))))
+loop-holds c = (search needs, omega (arith, count-start (joined (c .before .before))))
 
 add-loop : tie.Need-add-loop Inv-loop μ-loop
 add-loop c = search needs
 
 slot-after-requires : tie.Need-slot-after-requires Inv-loop μ-loop
-slot-after-requires c κs = (omega arith, ranks-movable (c .before .before .before .before .args .n) (covered (slotsFrom (c .before .before .before .before .args .ext .now) 0 (c .before .before .before .before .args .used)) (c .before .before .before .before .args .n) (c .before .before .before .before .args .v)) (c .before .before .before .before .args .ranks .now) (c .before .before .before .before .pre .3) (c .before .before .before .before .args .r) (omega arith) (omega arith))
+slot-after-requires c κs =
+    let s = c .before .before .before .before in
+    let v = s .args in
+    (omega arith, ranks-movable (v .n) (covered (slotsFrom (v .ext .now) 0 (v .used)) (v .n) (v .v)) (v .ranks .now) (s .pre .3) (v .r) (omega arith) (omega arith))
 
 add-slot-after : tie.Need-add-slot-after Inv-loop μ-loop
 add-slot-after c = search needs
 
 slot-after-requires-2 : tie.Need-slot-after-requires-2 Inv-loop μ-loop
-slot-after-requires-2 c κs = (omega arith, ranks-movable (c .before .before .before .before .before .args .n) (covered (slotsFrom (c .before .before .before .before .before .args .ext .now) 0 (c .before .before .before .before .before .args .used)) (c .before .before .before .before .before .args .n) (c .before .before .before .before .before .args .v)) (c .before .before .before .before .before .args .ranks .now) (c .before .before .before .before .before .pre .3) (c .before .before .before .before .before .args .r) (omega arith) (omega arith))
+slot-after-requires-2 c κs =
+    let s = c .before .before .before .before .before in
+    let v = s .args in
+    (omega arith, ranks-movable (v .n) (covered (slotsFrom (v .ext .now) 0 (v .used)) (v .n) (v .v)) (v .ranks .now) (s .pre .3) (v .r) (omega arith) (omega arith))
 
 joins-requires : tie.Need-joins-requires Inv-loop μ-loop
 joins-requires c κs = search needs
@@ -62,7 +75,11 @@ loop-again c = (
 )
 
 returns : tie.Need-returns Inv-loop μ-loop
-returns c = remapped-count (c .before .before .before .before .args .ext .now) (c .before .before .before .before .args .used) (c .before .before .before .before .args .n) (c .before .before .before .before .args .ranks .now) (c .before .before .before .before .args .v) (c .before .before .before .before .args .r) (c .before .loop .k) (c .before .loop .i) (omega arith) (c .before .before .before .before .pre .3) (omega arith) (c .before .loop .inv .1)
+returns c =
+    let s = c .before .before .before .before in
+    let v = s .args in
+    let l = c .before .loop in
+    remapped-count (v .ext .now) (v .used) (v .n) (v .ranks .now) (v .v) (v .r) (l .k) (l .i) (omega arith) (s .pre .3) (omega arith) (l .inv .1)
 
 pub joined-of-spec : {M : Type 1} → statement M
 joined-of-spec =

@@ -20,26 +20,25 @@ Inv-loop ext₀ used n v r ranks w₀ i₀ ext w i = (i ≤ used) × (length ext
 abbrev μ-loop : tie.MeasureT-loop
 μ-loop ext₀ used n v r ranks w₀ i₀ ext w i = used - i
 
+-- where a page goes
+abbrev to : tie.Start Inv-loop μ-loop → ℕ → ℕ
+to s = place (s .args .n) (s .args .ranks .now) (s .args .v) (s .args .r)
+
 loop-holds : tie.Need-loop-holds Inv-loop μ-loop
-loop-holds c = (search needs, refl, packed-start (place (c .before .before .args .n) (c .before .before .args .ranks .now) (c .before .before .args .v) (c .before .before .args .r)) (c .before .before .args .n) (c .before .before .args .ext .now))
+loop-holds c = let s = c .before .before in (search needs, refl, packed-start (to s) (s .args .n) (s .args .ext .now))
 
 slot-after-requires : tie.Need-slot-after-requires Inv-loop μ-loop
-slot-after-requires c κs = (
-  omega arith,
-  ranks-movable (c .before .before .before .before .before .args .n) (covered (slotsFrom (c .before .before .before .before .before .args .ext .now) 0 (c .before .before .before .before .before .args .used)) (c .before .before .before .before .before .args .n) (c .before .before .before .before .before .args .v)) (c .before .before .before .before .before .args .ranks .now) (c .before .before .before .before .before .pre .3) (c .before .before .before .before .before .args .r) (omega arith) (omega arith),
-)
+slot-after-requires c κs =
+    let s = c .before .before .before .before .before in
+    let v = s .args in
+    (omega arith, ranks-movable (v .n) (covered (slotsFrom (v .ext .now) 0 (v .used)) (v .n) (v .v)) (v .ranks .now) (s .pre .3) (v .r) (omega arith) (omega arith))
 
 push-slot-requires : tie.Need-push-slot-requires Inv-loop μ-loop
-push-slot-requires c κs = (
-  omega arith,
-  omega (arith, c .before .before .before .before .loop .inv .2 .few),
-  omega (
-    arith,
-    c .before .before .before .before .before .before .before .pre .4 (c .before .before .before .before .loop .i) (omega arith),
-    ap end (c .before .slot-after .ensures),
-    ap end (packed-slot (place (c .before .before .before .before .before .before .before .args .n) (c .before .before .before .before .before .before .before .args .ranks .now) (c .before .before .before .before .before .before .before .args .v) (c .before .before .before .before .before .before .before .args .r)) (c .before .before .before .before .before .before .before .args .n) (c .before .before .before .before .before .before .before .args .ext .now) (c .before .before .before .before .loop .ext) (c .before .before .before .before .loop .i) (c .before .before .before .before .loop .w) (c .before .before .before .before .loop .inv .2)),
-  ),
-)
+push-slot-requires c κs =
+    let s = c .before .before .before .before .before .before .before in
+    let l = c .before .before .before .before .loop in
+    let packed = packed-slot (to s) (s .args .n) (s .args .ext .now) (l .ext) (l .i) (l .w) (l .inv .2) in
+    (omega arith, omega (arith, l .inv .2 .few), omega (arith, s .pre .4 (l .i) (omega arith), ap end (c .before .slot-after .ensures), ap end packed))
 
 add-i : tie.Need-add-i Inv-loop μ-loop
 add-i c = search needs
@@ -48,12 +47,15 @@ loop-less : tie.Need-loop-less Inv-loop μ-loop
 loop-less c = search needs
 
 loop-again : tie.Need-loop-again Inv-loop μ-loop
-loop-again c = (
-  search needs,
-  search needs,
-  packed-step (place (c .before .before .before .before .before .before .before .before .before .before .args .n) (c .before .before .before .before .before .before .before .before .before .before .args .ranks .now) (c .before .before .before .before .before .before .before .before .before .before .args .v) (c .before .before .before .before .before .before .before .before .before .before .args .r)) (c .before .before .before .before .before .before .before .before .before .before .args .n) (c .before .before .before .before .before .before .before .before .before .before .args .ext .now) (c .before .before .before .before .before .before .before .loop .ext) (c .before .before .push-slot .last .0) (c .before .before .before .before .before .before .before .loop .i) (c .before .before .before .before .before .before .before .loop .w) (c .before .before .push-slot .result) (c .before .before .before .before .slot-after .result)
-      (c .before .before .before .before .before .before .before .loop .inv .2) (c .before .before .before .before .slot-after .ensures) (c .before .before .push-slot .ensures),
-)
+loop-again c =
+    let s = c .before .before .before .before .before .before .before .before .before .before in
+    let l = c .before .before .before .before .before .before .before .loop in
+    let moved = c .before .before .before .before .slot-after in
+    let pushed = c .before .before .push-slot in (
+      search needs,
+      search needs,
+      packed-step (to s) (s .args .n) (s .args .ext .now) (l .ext) (pushed .last .0) (l .i) (l .w) (pushed .result) (moved .result) (l .inv .2) (moved .ensures) (pushed .ensures),
+    )
 
 mul-fill-with : tie.Need-mul-fill-with Inv-loop μ-loop
 mul-fill-with c = search needs
@@ -78,13 +80,17 @@ same-length c = search needs
 
 returns : tie.Need-returns Inv-loop μ-loop
 returns c =
-    let e : c .before .before .before .before .before .loop .i ≡ c .before .before .before .before .before .before .before .before .args .used = omega arith in
-    let all = moved-map (c .before .before .before .before .before .before .before .before .args .ext .now) (c .before .before .before .before .before .before .before .before .args .used) (c .before .before .before .before .before .before .before .before .args .n) (c .before .before .before .before .before .before .before .before .args .ranks .now) (c .before .before .before .before .before .before .before .before .args .v) (c .before .before .before .before .before .before .before .before .args .r) (omega arith) (c .before .before .before .before .before .before .before .before .pre .3) in (
-      packed-length (place (c .before .before .before .before .before .before .before .before .args .n) (c .before .before .before .before .before .before .before .before .args .ranks .now) (c .before .before .before .before .before .before .before .before .args .v) (c .before .before .before .before .before .before .before .before .args .r)) (c .before .before .before .before .before .before .before .before .args .n) (c .before .before .before .before .before .before .before .before .args .ext .now) (c .before .before .before .before .before .loop .ext) (c .before .before .before .before .before .loop .i) (c .before .before .before .before .before .loop .w) (c .before .before .before .before .before .loop .inv .2)
-          ∙ ap (λ (k : ℕ). length (norm (c .before .before .before .before .before .before .before .before .args .n) (map (move (place (c .before .before .before .before .before .before .before .before .args .n) (c .before .before .before .before .before .before .before .before .args .ranks .now) (c .before .before .before .before .before .before .before .before .args .v) (c .before .before .before .before .before .before .before .before .args .r))) (slotsFrom (c .before .before .before .before .before .before .before .before .args .ext .now) 0 k)))) e ∙ ap length all,
-      packed-end (place (c .before .before .before .before .before .before .before .before .args .n) (c .before .before .before .before .before .before .before .before .args .ranks .now) (c .before .before .before .before .before .before .before .before .args .v) (c .before .before .before .before .before .before .before .before .args .r)) (c .before .before .before .before .before .before .before .before .args .n) (c .before .before .before .before .before .before .before .before .args .ext .now) (c .before .before .before .before .before .loop .ext) (c .before .before .fill-with .last .0) (c .before .before .before .before .before .loop .i) (c .before .before .before .before .before .loop .w) (omega arith) (omega arith) (c .before .before .before .before .before .loop .inv .2) (c .before .before .fill-with .ensures)
-          ∙ ap (λ (k : ℕ). laid (norm (c .before .before .before .before .before .before .before .before .args .n) (map (move (place (c .before .before .before .before .before .before .before .before .args .n) (c .before .before .before .before .before .before .before .before .args .ranks .now) (c .before .before .before .before .before .before .before .before .args .v) (c .before .before .before .before .before .before .before .before .args .r))) (slotsFrom (c .before .before .before .before .before .before .before .before .args .ext .now) 0 k))) (length (c .before .before .before .before .before .before .before .before .args .ext .now))) e
-          ∙ ap (λ (es : List Extent). laid es (length (c .before .before .before .before .before .before .before .before .args .ext .now))) all,
+    let s = c .before .before .before .before .before .before .before .before in
+    let v = s .args in
+    let l = c .before .before .before .before .before .loop in
+    let filled = c .before .before .fill-with in
+    let e : l .i ≡ v .used = omega arith in
+    let all = moved-map (v .ext .now) (v .used) (v .n) (v .ranks .now) (v .v) (v .r) (omega arith) (s .pre .3) in
+    let after : ℕ → List Extent = λ k. norm (v .n) (map (move (to s)) (slotsFrom (v .ext .now) 0 k)) in (
+      packed-length (to s) (v .n) (v .ext .now) (l .ext) (l .i) (l .w) (l .inv .2) ∙ ap (λ (k : ℕ). length (after k)) e ∙ ap length all,
+      packed-end (to s) (v .n) (v .ext .now) (l .ext) (filled .last .0) (l .i) (l .w) (omega arith) (omega arith) (l .inv .2) (filled .ensures)
+          ∙ ap (λ (k : ℕ). laid (after k) (length (v .ext .now))) e
+          ∙ ap (λ (es : List Extent). laid es (length (v .ext .now))) all,
     )
 
 pub move-map-spec : {M : Type 1} → statement M
