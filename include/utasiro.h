@@ -3,7 +3,7 @@
  * logical page, touches no page contents, and lists what the host must program,
  * copy and erase.
  *
- * Link libabi.a (`rt staticlib abi` writes target/staticlib/libabi.a, for x86-64
+ * Link libutasiro.a (`rt staticlib utasiro` writes target/staticlib/libutasiro.a, for x86-64
  * Linux). The library keeps nothing between calls, allocates nothing and calls
  * nothing: all it knows is lent to it.
  *

@@ -16,22 +16,22 @@ use Rattle.layer.specs.ByRule.{by-rule}
 use Rattle.layer.proofs.Calls.{fresh-words, FreshRight, freshly, fresh-right, write-words, writes, writes-to}
 use Rattle.layer.proofs.Calls.{trim-words, trims, trims-to, read-words, reads, reads-from, reclaim-words, reclaims, reclaims-in, report-words, reports-on}
 use Rattle.records.proofs.Calls.{record-words, reads-records, records-from}
-use Rattle.abi.specs.declared.Outcome.{Outcome}
-use Rattle.abi.specs.Said.{ofDone, ofListed, ofCounts}
-use Rattle.abi.specs.Told.{done-one, listed-one, counts-one}
-use Rattle.abi.proofs.utasiro_fresh.Kinds as Fresh
-use Rattle.abi.proofs.utasiro_fresh.Reads as fresh-contract
-use Rattle.abi.proofs.utasiro_write.Kinds as Write
-use Rattle.abi.proofs.utasiro_write.Reads as write-contract
-use Rattle.abi.proofs.utasiro_trim.Kinds as Trim
-use Rattle.abi.proofs.utasiro_trim.Reads as trim-contract
-use Rattle.abi.proofs.utasiro_read.Kinds as Read
-use Rattle.abi.proofs.utasiro_read.Reads as read-contract
-use Rattle.abi.proofs.utasiro_reclaim.Kinds as Reclaim
-use Rattle.abi.proofs.utasiro_reclaim.Reads as reclaim-contract
-use Rattle.abi.proofs.utasiro_report.Kinds as Report
-use Rattle.abi.proofs.utasiro_report.Reads as report-contract
-use Rattle.abi.proofs.utasiro_read_records as over-records
+use Rattle.utasiro.specs.declared.Outcome.{Outcome}
+use Rattle.utasiro.specs.Said.{ofDone, ofListed, ofCounts}
+use Rattle.utasiro.specs.Told.{done-one, listed-one, counts-one}
+use Rattle.utasiro.proofs.utasiro_fresh.Kinds as Fresh
+use Rattle.utasiro.proofs.utasiro_fresh.Reads as fresh-contract
+use Rattle.utasiro.proofs.utasiro_write.Kinds as Write
+use Rattle.utasiro.proofs.utasiro_write.Reads as write-contract
+use Rattle.utasiro.proofs.utasiro_trim.Kinds as Trim
+use Rattle.utasiro.proofs.utasiro_trim.Reads as trim-contract
+use Rattle.utasiro.proofs.utasiro_read.Kinds as Read
+use Rattle.utasiro.proofs.utasiro_read.Reads as read-contract
+use Rattle.utasiro.proofs.utasiro_reclaim.Kinds as Reclaim
+use Rattle.utasiro.proofs.utasiro_reclaim.Reads as reclaim-contract
+use Rattle.utasiro.proofs.utasiro_report.Kinds as Report
+use Rattle.utasiro.proofs.utasiro_report.Reads as report-contract
+use Rattle.utasiro.proofs.utasiro_read_records as over-records
 
 pub fresh-promises : (κs : Lfts 3) (a : Dens κs Fresh.ps) → Promises (fresh-contract.Asked κs a) (fresh-contract.Post κs a) ofDone (fresh-words κs a) (FreshRight κs a)
 fresh-promises κs a =

@@ -3,8 +3,8 @@ use mathlib.Core.Path.{refl, sym, ap, _∙_}
 use mathlib.Core.List.{[], _∷_}
 use Rattle.rules.specs.Answers.{said, counted}
 use borrow.Author.Needs.{needs}
-use Rattle.abi.proofs.of_counted.Statement.{statement}
-use Rattle.abi.proofs.of_counted.Tie as tie
+use Rattle.utasiro.proofs.of_counted.Statement.{statement}
+use Rattle.utasiro.proofs.of_counted.Tie as tie
 
 enum-known-d : tie.Need-enum-known-d
 enum-known-d c = search needs

@@ -1,7 +1,7 @@
-use Rattle.abi.specs.Said.{as-said}
+use Rattle.utasiro.specs.Said.{as-said}
 use borrow.Author.Needs.{needs}
-use Rattle.abi.proofs.utasiro_fresh.Statement.{statement}
-use Rattle.abi.proofs.utasiro_fresh.Tie as tie
+use Rattle.utasiro.proofs.utasiro_fresh.Statement.{statement}
+use Rattle.utasiro.proofs.utasiro_fresh.Tie as tie
 
 fresh-requires : tie.Need-fresh-requires
 fresh-requires c κs = search needs

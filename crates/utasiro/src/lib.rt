@@ -12,7 +12,7 @@ ghost use Rattle.rules.specs.Lent.{lent};
 ghost use Rattle.rules.specs.Answers.{outcome};
 ghost use Rattle.rules.specs.Calls.{Call, call, fresh};
 ghost use Rattle.rules.specs.Extents.{flat};
-ghost use Rattle.abi.specs.Said.{ofDone, ofListed, ofCounts, saidDone, saidListed, saidCounts};
+ghost use Rattle.utasiro.specs.Said.{ofDone, ofListed, ofCounts, saidDone, saidListed, saidCounts};
 
 // What fresh, write, trim, read and reclaim answer: the refusal's number, or 0; the count, 0 where there is none; the head.
 #[repr(C)]

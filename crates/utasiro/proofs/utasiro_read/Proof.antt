@@ -1,7 +1,7 @@
-use Rattle.abi.specs.Said.{as-said}
+use Rattle.utasiro.specs.Said.{as-said}
 use borrow.Author.Needs.{needs}
-use Rattle.abi.proofs.utasiro_read.Statement.{statement}
-use Rattle.abi.proofs.utasiro_read.Tie as tie
+use Rattle.utasiro.proofs.utasiro_read.Statement.{statement}
+use Rattle.utasiro.proofs.utasiro_read.Tie as tie
 
 read-requires : tie.Need-read-requires
 read-requires c κs = search needs

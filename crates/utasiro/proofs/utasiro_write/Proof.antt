@@ -1,10 +1,10 @@
-use Rattle.abi.specs.Said.{as-said}
+use Rattle.utasiro.specs.Said.{as-said}
 use borrow.Author.Needs.{needs}
-use Rattle.abi.proofs.utasiro_reclaim.Statement.{statement}
-use Rattle.abi.proofs.utasiro_reclaim.Tie as tie
+use Rattle.utasiro.proofs.utasiro_write.Statement.{statement}
+use Rattle.utasiro.proofs.utasiro_write.Tie as tie
 
-reclaim-requires : tie.Need-reclaim-requires
-reclaim-requires c κs = search needs
+write-requires : tie.Need-write-requires
+write-requires c κs = search needs
 
 of-listed-requires : tie.Need-of-listed-requires
 of-listed-requires c κs = search needs
@@ -22,13 +22,13 @@ same-length-4 : tie.Need-same-length-4
 same-length-4 c = search needs
 
 returns : tie.Need-returns
-returns c = as-said _ _ _ _ _ _ _ (c .of-listed .ensures) (c .before .before .before .before .before .before .before .before .before .reclaim .ensures)
+returns c = as-said _ _ _ _ _ _ _ (c .of-listed .ensures) (c .before .before .before .before .before .before .before .before .before .write .ensures)
 
-pub utasiro-reclaim-spec : {M : Type 1} → statement M
-utasiro-reclaim-spec =
+pub utasiro-write-spec : {M : Type 1} → statement M
+utasiro-write-spec =
     tie.close
     (tie.spec
-    reclaim-requires
+    write-requires
     of-listed-requires
     same-length
     same-length-2

@@ -1,7 +1,7 @@
-use Rattle.abi.specs.Said.{as-said}
+use Rattle.utasiro.specs.Said.{as-said}
 use borrow.Author.Needs.{needs}
-use Rattle.abi.proofs.utasiro_trim.Statement.{statement}
-use Rattle.abi.proofs.utasiro_trim.Tie as tie
+use Rattle.utasiro.proofs.utasiro_trim.Statement.{statement}
+use Rattle.utasiro.proofs.utasiro_trim.Tie as tie
 
 trim-requires : tie.Need-trim-requires
 trim-requires c κs = search needs

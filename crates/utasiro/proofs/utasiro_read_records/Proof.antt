@@ -1,4 +1,4 @@
--- `abi::utasiro_read_records` meets its contract: a walk of its MIR, by hand. What it owns at entry is what `records::read_records` asks, and is handed on whole; what
+-- `utasiro::utasiro_read_records` meets its contract: a walk of its MIR, by hand. What it owns at entry is what `records::read_records` asks, and is handed on whole; what
 -- that says of the last words of `out` is what this is to say of them (`Direct.antt` of `records`).
 -- Assumes nothing.
 use mathlib.Core.Path.{refl}
@@ -29,9 +29,9 @@ use Rattle.rules.specs.Extents.{flat}
 use Rattle.rules.specs.declared.Listed.{Listed}
 use Rattle.rules.proofs.Listed as An
 use Rattle.rules.proofs.Listed.Laws as An′
-use Rattle.abi.specs.Said.{ofListed, saidListed, as-said}
-use Rattle.abi.proofs.Outcome as Out
-use Rattle.abi.proofs.Outcome.Laws as Out′
+use Rattle.utasiro.specs.Said.{ofListed, saidListed, as-said}
+use Rattle.utasiro.proofs.Outcome as Out
+use Rattle.utasiro.proofs.Outcome.Laws as Out′
 use Rattle.records.proofs.Asked.{Asked, spelled, told, at, Reads, typed}
 use Rattle.records.proofs.Direct.{Own, Walk, ends, meets, calls}
 use Rattle.records.proofs.Locals.{var, freed}
@@ -39,14 +39,14 @@ use Rattle.records.proofs.read_records as read
 use Rattle.records.proofs.read_records.Symbol as read-def
 use Rattle.records.proofs.read_records.Symbol.{name as #records·read-records}
 use Rattle.records.proofs.read_records.Met as read-thm
-use Rattle.abi.proofs.of_listed as of-listed
-use Rattle.abi.proofs.of_listed.Symbol as of-listed-def
-use Rattle.abi.proofs.of_listed.Symbol.{name as #abi·of-listed}
-use Rattle.abi.proofs.of_listed.Met as of-listed-thm
-use Rattle.abi.proofs.utasiro_read_records.Key.{name as #abi·utasiro-read-records}
-use Rattle.abi.proofs.utasiro_read_records as top
-use Rattle.abi.proofs.utasiro_read_records.Statement as stated
-use Rattle.abi.proofs.utasiro_read_records.Code as code
+use Rattle.utasiro.proofs.of_listed as of-listed
+use Rattle.utasiro.proofs.of_listed.Symbol as of-listed-def
+use Rattle.utasiro.proofs.of_listed.Symbol.{name as #utasiro·of-listed}
+use Rattle.utasiro.proofs.of_listed.Met as of-listed-thm
+use Rattle.utasiro.proofs.utasiro_read_records.Key.{name as #utasiro·utasiro-read-records}
+use Rattle.utasiro.proofs.utasiro_read_records as top
+use Rattle.utasiro.proofs.utasiro_read_records.Statement as stated
+use Rattle.utasiro.proofs.utasiro_read_records.Code as code
 
 module _ {M : Type 1} (𝓤 : URA M) (H : Heap 𝓤) (A : Atoms 𝓤) (mem : Memory → SProp 𝓤) (run : Routine → Fun 𝓤) where
   -- the contracts: its own, and those that the proof cites
@@ -70,7 +70,7 @@ module _ {M : Type 1} (𝓤 : URA M) (H : Heap 𝓤) (A : Atoms 𝓤) (W : Given
   goes : (r : Listed) (u : Val) → ent 𝓤 (sem 𝓤 H A (An.the-row .own r (u ∷ []))) (OfListed 𝓤 H A mem run .pre (to-of 𝓤 H A mem run r u))
   goes r u = qed W (‵ (An.the-row .own r (u ∷ [])) ∷ []) ∵ nothing ! $ move ! (1 ∷ 0 ∷ []) $ fjoin ! $ nothing ! $ join ! $ frame ! $ done !
 
-  walk : Triple 𝓤 (𝓣 .C #records·read-records) (Read 𝓤 H A mem run) → Triple 𝓤 (𝓣 .C #abi·of-listed) (OfListed 𝓤 H A mem run) → (y : Top 𝓤 H A mem run .Ghost)
+  walk : Triple 𝓤 (𝓣 .C #records·read-records) (Read 𝓤 H A mem run) → Triple 𝓤 (𝓣 .C #utasiro·of-listed) (OfListed 𝓤 H A mem run) → (y : Top 𝓤 H A mem run .Ghost)
       → Walk 𝓤 H A top.ended (top.clauses 𝓤 H A mem run) spelled (WpFn 𝓤 H (𝓣 .C) (𝓣 .Λ) code.function) y
   walk known-read known-of y are =
       let κs = y .0 .0 in
@@ -102,7 +102,7 @@ module _ {M : Type 1} (𝓤 : URA M) (H : Heap 𝓤) (A : Atoms 𝓤) (W : Given
       keep ! (4 ∷ 0 ∷ 3 ∷ []) $ by ! (ends 𝓤 H A top.ended (top.clauses 𝓤 H A mem run) y W w o ws (Reads κs a (flat (a .1 .0 .now)) (ofListed o) (ws .1 .1 .1 .1 .1 .1 .0)) (id⊢ 𝓤 _)
       (as-said (ofListed o) (listed r) _ _ _ _ _ e₁ e)))))))))))))))
 
-  top-meets : Triple 𝓤 (𝓣 .C #records·read-records) (Read 𝓤 H A mem run) → Triple 𝓤 (𝓣 .C #abi·of-listed) (OfListed 𝓤 H A mem run)
+  top-meets : Triple 𝓤 (𝓣 .C #records·read-records) (Read 𝓤 H A mem run) → Triple 𝓤 (𝓣 .C #utasiro·of-listed) (OfListed 𝓤 H A mem run)
       → Meets 𝓤 H A top.signature (WpFn 𝓤 H (𝓣 .C) (𝓣 .Λ) code.function) (top.spec 𝓤 H A mem run)
   top-meets known-read known-of = meets 𝓤 H A top.ended (top.clauses 𝓤 H A mem run) spelled told (WpFn 𝓤 H (𝓣 .C) (𝓣 .Λ) code.function) (walk known-read known-of)
 
@@ -110,7 +110,7 @@ pub utasiro-read-records-spec : {M : Type 1} → stated.statement M
 unfolding code.routine tablesOf
 utasiro-read-records-spec 𝓤 H 𝓜 𝓖 𝓡 =
     let 𝓣 = tables 𝓤 H 𝓜 𝓡 code.env in
-    entered 𝓤 H (tripleOf 𝓤 H (𝓖 .A) top.signature (top.spec 𝓤 H (𝓖 .A) (𝓜 .mem) (𝓡 .run))) (𝓣 .C) (𝓣 .Λ) #abi·utasiro-read-records code.function (code.unfolded 𝓤 H 𝓜 𝓡)
+    entered 𝓤 H (tripleOf 𝓤 H (𝓖 .A) top.signature (top.spec 𝓤 H (𝓖 .A) (𝓜 .mem) (𝓡 .run))) (𝓣 .C) (𝓣 .Λ) #utasiro·utasiro-read-records code.function (code.unfolded 𝓤 H 𝓜 𝓡)
     (top-meets 𝓤 H (𝓖 .A) (givenOf 𝓤 H 𝓜 𝓖) (𝓜 .mem) (𝓡 .run) (tablesOf 𝓤 H 𝓜 𝓣)
     (cited 𝓤 H (Read 𝓤 H (𝓖 .A) (𝓜 .mem) (𝓡 .run)) 𝓜 𝓡 code.env #records·read-records read-def.routine code.calls-records·read-records (read-thm.met 𝓤 H 𝓜 𝓖 𝓡))
-    (cited 𝓤 H (OfListed 𝓤 H (𝓖 .A) (𝓜 .mem) (𝓡 .run)) 𝓜 𝓡 code.env #abi·of-listed of-listed-def.routine code.calls-abi·of-listed (of-listed-thm.met 𝓤 H 𝓜 𝓖 𝓡)))
+    (cited 𝓤 H (OfListed 𝓤 H (𝓖 .A) (𝓜 .mem) (𝓡 .run)) 𝓜 𝓡 code.env #utasiro·of-listed of-listed-def.routine code.calls-utasiro·of-listed (of-listed-thm.met 𝓤 H 𝓜 𝓖 𝓡)))
