@@ -32,6 +32,15 @@ pub struct Counts {
     pub head: Head,
 }
 
+// The version of this library, 0.1.0 as 100: ten thousand for each major one, a hundred for each minor one. A program compares it with the
+// UTASIRO_VERSION of the header that it was compiled with.
+#[no_mangle]
+pub extern "C" fn utasiro_version() -> u32
+    ensures { λ r. ⌜ r ≡ 100 ⌝ }
+{
+    100
+}
+
 fn of_done(d: Done) -> Outcome
     ensures { λ r. ⌜ saidDone r d ⌝ }
 {

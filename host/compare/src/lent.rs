@@ -63,12 +63,14 @@ impl Arena {
 }
 
 fn to_library(head: Head) -> ffi::Head {
-    let Head { blocks, pages, logical, slots, used, reserve, last } = head;
-    ffi::Head { blocks, pages, logical, slots, used, reserve, last }
+    let mut to = ffi::Head::default();
+    (to.blocks, to.pages, to.logical, to.slots) = (head.blocks, head.pages, head.logical, head.slots);
+    (to.used, to.reserve, to.last) = (head.used, head.reserve, head.last);
+    to
 }
 
 fn from_library(head: ffi::Head) -> Head {
-    let ffi::Head { blocks, pages, logical, slots, used, reserve, last } = head;
+    let ffi::Head { blocks, pages, logical, slots, used, reserve, last, .. } = head;
     Head { blocks, pages, logical, slots, used, reserve, last }
 }
 

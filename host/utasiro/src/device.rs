@@ -1,72 +1,20 @@
 //! A device that owns its words. Answers come back as lists, so no answer buffer
 //! is ever short.
 
-use crate::ffi::{self, Extent, Head, Outcome};
-use crate::{Refusal, HOLE};
+use std::vec;
+use std::vec::Vec;
 
-/// The largest sizes of document 01. Beyond them every call is refused, so no
-/// buffer need be longer.
-const MOST_BLOCKS: u32 = 1024;
-const MOST_PAGES: u32 = 256;
-const MOST_SLOTS: u32 = 8192;
+use crate::answer::MOST;
+use crate::{calls, Extent, Head, Piece, Refusal, Report, Sizes};
 
-/// The sizes of a device.
-#[derive(Clone, Copy, Debug, PartialEq, Eq)]
-pub struct Sizes {
-    /// B, 3 to 1,024.
-    pub blocks: u32,
-    /// N, the pages of a block, 1 to 256.
-    pub pages: u32,
-    /// L, the logical pages, 1 to (B-2) x N.
-    pub logical: u32,
-    /// M, the extent slots, 1 to 8,192.
-    pub slots: u32,
-}
-
-/// So many pages from a logical page on, and where they are.
-#[derive(Clone, Copy, Debug, PartialEq, Eq)]
-pub struct Piece {
-    pub logical: u32,
-    /// The first physical page, or [`HOLE`].
-    pub physical: u32,
-    pub count: u32,
-}
-
-impl Piece {
-    /// Each logical page of the piece with its physical page; none for a hole.
-    ///
-    /// ```
-    /// use utasiro::{Piece, HOLE};
-    ///
-    /// let pages: Vec<_> = Piece { logical: 4, physical: 9, count: 2 }.pages().collect();
-    /// assert_eq!(pages, [(4, Some(9)), (5, Some(10))]);
-    /// let pages: Vec<_> = Piece { logical: 6, physical: HOLE, count: 1 }.pages().collect();
-    /// assert_eq!(pages, [(6, None)]);
-    /// ```
-    pub fn pages(self) -> impl Iterator<Item = (u32, Option<u32>)> {
-        let physical = (self.physical != HOLE).then_some(self.physical);
-        (0..self.count).map(move |k| (self.logical + k, physical.map(|first| first + k)))
-    }
-}
-
-/// What the host must do after a reclaim: copy, then erase.
+/// What the host must do after a reclaim: make the copies, save the state, and only then
+/// erase the block.
 #[derive(Clone, Debug, PartialEq, Eq)]
 pub struct Reclaimed {
     /// From which physical page to which, in order.
     pub copies: Vec<(u32, u32)>,
-    /// The block to erase after the copies.
+    /// The block to erase.
     pub erase: u32,
-}
-
-/// The three counts. Together they are (B-1) x N.
-#[derive(Clone, Copy, Debug, PartialEq, Eq)]
-pub struct Report {
-    /// Pages that can be written.
-    pub free: u32,
-    /// Mapped logical pages.
-    pub live: u32,
-    /// Programmed pages that no logical page maps to.
-    pub stale: u32,
 }
 
 /// A device with the words that it lends. A refused call leaves it as it was.
@@ -92,33 +40,17 @@ impl Device {
     /// # Ok::<(), Refusal>(())
     /// ```
     pub fn fresh(sizes: Sizes) -> Result<Device, Refusal> {
-        let Sizes { blocks, pages, logical, slots } = sizes;
-        let zeros = |words: u32| vec![0; words as usize];
-        let mut extents = zeros(3 * slots.min(MOST_SLOTS));
-        let mut block_words = zeros(2 * blocks.min(MOST_BLOCKS));
-        let mut spare = zeros(blocks.min(MOST_BLOCKS) * pages.min(MOST_PAGES));
-        // Safety: the buffers are three vectors with their own lengths.
-        let outcome = unsafe {
-            ffi::utasiro_fresh(
-                blocks,
-                pages,
-                logical,
-                slots,
-                extents.as_mut_ptr(),
-                extents.len(),
-                block_words.as_mut_ptr(),
-                block_words.len(),
-                spare.as_mut_ptr(),
-                spare.len(),
-            )
-        };
-        accepted(outcome.refusal)?;
-        Ok(Device { head: outcome.head, extents, blocks: block_words, spare })
+        let mut extents = vec![0; sizes.extent_words()];
+        let mut blocks = vec![0; sizes.block_words()];
+        let mut spare = vec![0; sizes.spare_words()];
+        let head = calls::fresh(sizes, &mut extents, &mut blocks, &mut spare)?;
+        Ok(Device { head, extents, blocks, spare })
     }
 
     /// Writes `count` logical pages from `start` on, 1 to N of them. `number` must
     /// be above that of every write and trim accepted before. The host then
-    /// programs the pages of each piece, in order.
+    /// programs the pages of each piece, in order, saves the device, and only then
+    /// acknowledges the request.
     ///
     /// ```
     /// # use utasiro::{Device, Piece, Refusal, Sizes};
@@ -133,30 +65,15 @@ impl Device {
     /// ```
     pub fn write(&mut self, number: u64, start: u32, count: u32) -> Result<Vec<Piece>, Refusal> {
         // One piece per block used, and a write has N pages at most.
-        let mut answer = vec![0; 3 * count.min(MOST_PAGES) as usize];
-        // Safety: the buffers are four vectors with their own lengths.
-        let outcome = unsafe {
-            ffi::utasiro_write(
-                self.head,
-                self.extents.as_mut_ptr(),
-                self.extents.len(),
-                self.blocks.as_mut_ptr(),
-                self.blocks.len(),
-                self.spare.as_mut_ptr(),
-                self.spare.len(),
-                number,
-                start,
-                count,
-                answer.as_mut_ptr(),
-                answer.len(),
-            )
-        };
-        self.take(outcome)?;
-        Ok(pieces(&answer, outcome.count))
+        let mut answer = vec![0; 3 * count.min(MOST.pages) as usize];
+        let (e, b, s) = (&mut self.extents, &mut self.blocks, &mut self.spare);
+        let (head, pieces) = calls::write(self.head, e, b, s, number, start, count, &mut answer)?;
+        self.head = head;
+        Ok(pieces.collect())
     }
 
     /// Makes holes of `count` logical pages from `start` on. `number` is as for a
-    /// write. The host has nothing to do.
+    /// write. The host saves the device and only then acknowledges the request.
     ///
     /// ```
     /// # use utasiro::{Device, Refusal, Sizes};
@@ -168,22 +85,9 @@ impl Device {
     /// # Ok::<(), Refusal>(())
     /// ```
     pub fn trim(&mut self, number: u64, start: u32, count: u32) -> Result<(), Refusal> {
-        // Safety: the buffers are three vectors with their own lengths.
-        let outcome = unsafe {
-            ffi::utasiro_trim(
-                self.head,
-                self.extents.as_mut_ptr(),
-                self.extents.len(),
-                self.blocks.as_mut_ptr(),
-                self.blocks.len(),
-                self.spare.as_ptr(),
-                self.spare.len(),
-                number,
-                start,
-                count,
-            )
-        };
-        self.take(outcome)
+        let (e, b) = (&mut self.extents, &mut self.blocks);
+        self.head = calls::trim(self.head, e, b, &self.spare, number, start, count)?;
+        Ok(())
     }
 
     /// Where `count` logical pages from `start` on are, in logical order.
@@ -200,28 +104,12 @@ impl Device {
     /// ```
     pub fn read(&self, start: u32, count: u32) -> Result<Vec<Piece>, Refusal> {
         let mut answer = vec![0; 3 * most_pieces(self.head, count)];
-        // Safety: the buffers are four vectors with their own lengths.
-        let outcome = unsafe {
-            ffi::utasiro_read(
-                self.head,
-                self.extents.as_ptr(),
-                self.extents.len(),
-                self.blocks.as_ptr(),
-                self.blocks.len(),
-                self.spare.as_ptr(),
-                self.spare.len(),
-                start,
-                count,
-                answer.as_mut_ptr(),
-                answer.len(),
-            )
-        };
-        accepted(outcome.refusal)?;
-        Ok(pieces(&answer, outcome.count))
+        let (e, b, s) = (&self.extents, &self.blocks, &self.spare);
+        Ok(calls::read(self.head, e, b, s, start, count, &mut answer)?.collect())
     }
 
     /// Frees the stale pages of the block that has most of them. The host then
-    /// makes the copies, and after them erases the block.
+    /// makes the copies, saves the device, and only then erases the block.
     ///
     /// ```
     /// # use utasiro::{Device, Reclaimed, Refusal, Sizes};
@@ -234,25 +122,11 @@ impl Device {
     /// # Ok::<(), Refusal>(())
     /// ```
     pub fn reclaim(&mut self) -> Result<Reclaimed, Refusal> {
-        let mut answer = vec![0; self.head.pages.min(MOST_PAGES) as usize];
-        let target = self.head.reserve.wrapping_mul(self.head.pages);
-        // Safety: the buffers are four vectors with their own lengths.
-        let outcome = unsafe {
-            ffi::utasiro_reclaim(
-                self.head,
-                self.extents.as_mut_ptr(),
-                self.extents.len(),
-                self.blocks.as_mut_ptr(),
-                self.blocks.len(),
-                self.spare.as_mut_ptr(),
-                self.spare.len(),
-                answer.as_mut_ptr(),
-                answer.len(),
-            )
-        };
-        self.take(outcome)?;
-        let sources = answer[..outcome.count as usize].iter().copied();
-        Ok(Reclaimed { copies: sources.zip(target..).collect(), erase: self.head.reserve })
+        let mut answer = vec![0; self.head.pages.min(MOST.pages) as usize];
+        let (e, b, s) = (&mut self.extents, &mut self.blocks, &mut self.spare);
+        let (head, moves) = calls::reclaim(self.head, e, b, s, &mut answer)?;
+        self.head = head;
+        Ok(Reclaimed { copies: moves.copies().collect(), erase: moves.erase })
     }
 
     /// Counts free, live and stale pages.
@@ -266,20 +140,7 @@ impl Device {
     /// # Ok::<(), Refusal>(())
     /// ```
     pub fn report(&self) -> Result<Report, Refusal> {
-        // Safety: the buffers are three vectors with their own lengths.
-        let counts = unsafe {
-            ffi::utasiro_report(
-                self.head,
-                self.extents.as_ptr(),
-                self.extents.len(),
-                self.blocks.as_ptr(),
-                self.blocks.len(),
-                self.spare.as_ptr(),
-                self.spare.len(),
-            )
-        };
-        accepted(counts.refusal)?;
-        Ok(Report { free: counts.free, live: counts.live, stale: counts.stale })
+        calls::report(self.head, &self.extents, &self.blocks, &self.spare)
     }
 
     /// A device of a head and words that were kept, as they come: any may be
@@ -329,17 +190,10 @@ impl Device {
     pub fn spare(&self) -> &[u32] {
         &self.spare
     }
-
-    fn take(&mut self, outcome: Outcome) -> Result<(), Refusal> {
-        accepted(outcome.refusal)?;
-        self.head = outcome.head;
-        Ok(())
-    }
 }
 
 /// Where `count` logical pages from `start` on are, as [`Device::read`] says it, for a
-/// host that keeps its extents as records: exactly M of them, one for each slot. It
-/// needs 98,304 bytes of stack more than a read over words.
+/// host that keeps its extents as records, as [`read_records_into`](crate::read_records_into) does.
 ///
 /// ```
 /// # use utasiro::{read_records, Device, Refusal, Sizes};
@@ -361,43 +215,12 @@ pub fn read_records(
     count: u32,
 ) -> Result<Vec<Piece>, Refusal> {
     let mut answer = vec![0; 3 * most_pieces(head, count)];
-    // Safety: the buffers are three slices and a vector with their own lengths. Should two
-    // of the slices overlap, nothing is written there.
-    let outcome = unsafe {
-        ffi::utasiro_read_records(
-            head,
-            extents.as_ptr(),
-            extents.len(),
-            blocks.as_ptr(),
-            blocks.len(),
-            spare.as_ptr(),
-            spare.len(),
-            start,
-            count,
-            answer.as_mut_ptr(),
-            answer.len(),
-        )
-    };
-    accepted(outcome.refusal)?;
-    Ok(pieces(&answer, outcome.count))
+    Ok(calls::read_records_into(head, extents, blocks, spare, start, count, &mut answer)?.collect())
 }
 
 /// A read has at most a piece for each page, and at most each extent and a hole
 /// before, between and after them.
 fn most_pieces(head: Head, count: u32) -> usize {
-    let extents = head.used.min(MOST_SLOTS);
+    let extents = head.used.min(MOST.slots);
     count.min(2 * extents + 1) as usize
-}
-
-/// A refusal's number as a result.
-fn accepted(number: u32) -> Result<(), Refusal> {
-    if number == 0 {
-        return Ok(());
-    }
-    Err(Refusal::of_number(number).expect("the library gives the refusals of document 01 alone"))
-}
-
-fn pieces(answer: &[u32], count: u32) -> Vec<Piece> {
-    let triples = answer.chunks_exact(3).take(count as usize);
-    triples.map(|triple| Piece { logical: triple[0], physical: triple[1], count: triple[2] }).collect()
 }

@@ -1,8 +1,10 @@
 //! The calls as the library exports them. include/utasiro.h says what is lent and
 //! what comes back; these declarations must say the same.
 
-/// What goes in and comes back by value with every call.
+/// What goes in and comes back by value with every call. A host that kept its fields sets
+/// them in `Head::default()`.
 #[repr(C)]
+#[non_exhaustive]
 #[derive(Clone, Copy, Debug, Default, PartialEq, Eq)]
 pub struct Head {
     /// B, the blocks of the device.
@@ -60,6 +62,9 @@ pub struct Counts {
 // from it on may be read and, but for `*const` ones, written, and no two buffers
 // overlap.
 extern "C" {
+    /// May be called from anywhere: it takes nothing.
+    pub fn utasiro_version() -> u32;
+
     pub fn utasiro_fresh(
         blocks: u32,
         pages: u32,

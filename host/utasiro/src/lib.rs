@@ -2,13 +2,19 @@
 //! logical page, and lists what the host must program, copy and erase. It does not
 //! touch page contents.
 //!
-//! Three layers, from the bottom:
-//! - [`ffi`]: the calls as the library exports them, over lent words;
-//! - [`Device`]: a safe device that owns its words. For a host that has a flash;
-//! - [`Store`]: a device with a simulated [`Flash`] under it, which does as the
-//!   calls list. For trying things out.
+//! A device has B blocks of N pages; L logical pages; and M extent slots, an extent being a run of
+//! logical pages that lie one after the other in one block. One block is in reserve. Its state is a
+//! [`Head`] and three buffers of words.
 //!
-//! [`read_records`] is for a host that keeps its extents as records.
+//! Four layers, from the bottom:
+//! - [`ffi`]: the calls as the library exports them;
+//! - [`Borrowed`]: a safe device over words that are lent to it. It needs neither `std` nor an
+//!   allocator: `default-features = false` leaves the rest out;
+//! - [`Device`]: a device that owns its words, and answers with lists;
+//! - [`Store`]: a device on a [`Board`], in the order that outlives a crash. [`SimulatedBoard`] is one
+//!   for trying things out.
+//!
+//! [`read_records`] and [`read_records_into`] are for a host that keeps its extents as records.
 //!
 //! Every write and trim has a number. A request that is sent again is refused:
 //!
@@ -25,20 +31,54 @@
 //! # Ok::<(), Refusal>(())
 //! ```
 
+#![no_std]
+
+#[cfg(feature = "std")]
+extern crate std;
+
+mod answer;
+#[cfg(feature = "std")]
+mod board;
+mod borrowed;
+mod calls;
+#[cfg(feature = "std")]
 mod device;
 pub mod ffi;
+#[cfg(feature = "std")]
 mod flash;
 mod refusal;
+#[cfg(feature = "std")]
 mod store;
 
-pub use device::{read_records, Device, Piece, Reclaimed, Report, Sizes};
+pub use answer::{Moves, Piece, Pieces, Report, Sizes};
+#[cfg(feature = "std")]
+pub use board::{Board, Saved, SimulatedBoard};
+pub use borrowed::Borrowed;
+pub use calls::read_records_into;
+#[cfg(feature = "std")]
+pub use device::{read_records, Device, Reclaimed};
 pub use ffi::{Extent, Head};
+#[cfg(feature = "std")]
 pub use flash::{Fault, Flash};
 pub use refusal::Refusal;
-pub use store::Store;
+#[cfg(feature = "std")]
+pub use store::{Failure, Store};
 
 /// The physical start of a hole in a read.
 pub const HOLE: u32 = 4_294_967_295;
 
 /// The label of an erased page.
 pub const ERASED: u32 = 4_294_967_295;
+
+/// The version that this crate was written for, 0.1.0 as 100.
+pub const VERSION: u32 = 100;
+
+/// The version of the library that is linked.
+///
+/// ```
+/// assert_eq!(utasiro::version(), utasiro::VERSION);
+/// ```
+pub fn version() -> u32 {
+    // Safety: it takes nothing and changes nothing.
+    unsafe { ffi::utasiro_version() }
+}

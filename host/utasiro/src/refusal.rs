@@ -1,7 +1,6 @@
-//! The refusals of document 01, by name and number.
+//! The refusals, by name and number.
 
-use std::error::Error;
-use std::fmt;
+use core::fmt;
 
 /// Why a call was refused. A refused call changes nothing.
 ///
@@ -13,29 +12,33 @@ use std::fmt;
 /// assert_eq!(Refusal::of_number(0), None);
 /// assert_eq!(Refusal::Applied.to_string(), "4 Applied: the number is not above the last accepted one");
 /// ```
+#[non_exhaustive]
 #[derive(Clone, Copy, Debug, PartialEq, Eq, Hash)]
 pub enum Refusal {
-    /// A size or the length of a state buffer breaks the numbers of document 01.
+    /// A size is outside its bounds ([`Sizes`](crate::Sizes)), or a buffer of the state has another
+    /// length than the sizes ask for. Every call.
     Shape = 1,
-    /// The state isn't sound.
+    /// The head and the words are no sound state: no history of calls leaves them so. Every call
+    /// but fresh.
     Damaged = 2,
-    /// No pages, pages at or above L, or a write of more than N pages.
+    /// No pages, pages at or above L, or a write of more than N pages. Write, trim, read.
     Range = 3,
-    /// The number is not above the last accepted one.
+    /// The number is not above the last accepted one: this request, or a later one, was applied.
+    /// Write, trim.
     Applied = 4,
-    /// Fewer pages are free than the write has.
+    /// Fewer pages are free than the write has. Reclaiming frees some as long as any is stale.
     NoPages = 5,
-    /// The map afterwards would have more extents than slots.
+    /// The map afterwards would have more extents than slots. Write, trim, reclaim.
     NoNodes = 6,
-    /// The answer buffer is shorter than the answer.
+    /// The answer buffer is shorter than the answer. Write, read, reclaim.
     OutShort = 7,
-    /// No page is stale.
+    /// No page is stale, so there is nothing to reclaim.
     NothingStale = 8,
 }
 
 impl Refusal {
-    /// All eight, in order of their numbers.
-    pub const ALL: [Refusal; 8] = [
+    /// All of them, in order of their numbers.
+    pub const ALL: &'static [Refusal] = &[
         Refusal::Shape,
         Refusal::Damaged,
         Refusal::Range,
@@ -46,12 +49,12 @@ impl Refusal {
         Refusal::NothingStale,
     ];
 
-    /// The number of document 01.
+    /// The number that the library gives.
     pub fn number(self) -> u32 {
         self as u32
     }
 
-    /// The name of document 01.
+    /// The name, as in the C header but for its case.
     pub fn name(self) -> &'static str {
         match self {
             Refusal::Shape => "Shape",
@@ -65,15 +68,15 @@ impl Refusal {
         }
     }
 
-    /// The refusal of a number; none for 0, which is accepted, and above 8.
+    /// The refusal of a number; none for 0, which is accepted, and for a number that none has.
     pub fn of_number(number: u32) -> Option<Refusal> {
-        Refusal::ALL.into_iter().find(|refusal| refusal.number() == number)
+        Refusal::ALL.iter().copied().find(|refusal| refusal.number() == number)
     }
 
     fn reason(self) -> &'static str {
         match self {
-            Refusal::Shape => "a size or a buffer's length is not one of document 01",
-            Refusal::Damaged => "the state isn't sound",
+            Refusal::Shape => "a size is outside its bounds, or a buffer has another length than the sizes ask for",
+            Refusal::Damaged => "the head and the words are no sound state",
             Refusal::Range => "no pages, pages outside the device, or a write longer than a block",
             Refusal::Applied => "the number is not above the last accepted one",
             Refusal::NoPages => "fewer pages are free than the write has",
@@ -90,4 +93,5 @@ impl fmt::Display for Refusal {
     }
 }
 
-impl Error for Refusal {}
+#[cfg(feature = "std")]
+impl std::error::Error for Refusal {}
