@@ -1,11 +1,17 @@
 /*
  * Utasiro: a flash translation layer. It keeps which physical page holds each
  * logical page, touches no page contents, and lists what the host must program,
- * copy and erase.
+ * copy and erase. What this page says of the calls is proved of the library; what
+ * it asks of the caller and of the host is not, and cannot be.
  *
- * Link libutasiro.a (`rt staticlib utasiro` writes target/staticlib/libutasiro.a, for x86-64
- * Linux). The library keeps nothing between calls, allocates nothing and calls
- * nothing: all it knows is lent to it.
+ * Linking
+ *   libutasiro.a, which `rt staticlib utasiro` writes to target/staticlib, for x86-64
+ *   Linux, System V calling convention. `tools/install PREFIX` puts it, this header and
+ *   utasiro.pc where `pkg-config --cflags --libs utasiro` finds them. It needs memcpy,
+ *   memmove and memset, and nothing else: no other library, no allocator, no start-up
+ *   code. It keeps nothing between calls, so calls on different devices may run at the
+ *   same time; those on one device the caller must keep apart.
+ *   Stack: 8 KB do for any call but utasiro_read_records, which takes 98,304 bytes more.
  *
  * What is lent
  *   A device of B blocks of N pages, L logical pages and M extent slots is a head,
@@ -13,6 +19,9 @@
  *     extents  3M words     logical start, physical start, page count of each slot
  *     blocks   2B words     fill and valid count of each block
  *     spare    B x N words  the label of each physical page, which is block x N + offset
+ *   An extent is a run of logical pages that lie one after the other in one block. The
+ *   fill of a block is how many of its pages are programmed, from its first on; the valid
+ *   count, how many of these a logical page maps to. One block is in reserve.
  *   B is 3 to 1,024; N 1 to 256; L 1 to (B-2) x N; M 1 to 8,192. Lengths are
  *   exact and given in words: any other is refused 1, Shape. The extents of
  *   utasiro_read_records alone are lent as records, M of them, and counted so.
@@ -31,6 +40,49 @@
  *   every lent word as it was.
  *   The host goes on with the head that came back, and keeps it together with the
  *   words: neither is of use without the other.
+ *
+ * Writing when the device is full
+ *   A write that is refused 5, NoPages, fits after some reclaims:
+ *
+ *     for (;;) {
+ *         done = utasiro_write(head, STATE, number, start, count, ANSWER);
+ *         if (done.refusal != UTASIRO_NO_PAGES)
+ *             break;
+ *         done = utasiro_reclaim(head, STATE, ANSWER);
+ *         (copy, save done.head and STATE, erase: see below)
+ *         head = done.head;
+ *     }
+ *
+ *   It takes at most B-1 reclaims, each accepted, and then the write is accepted, where
+ *   it is in range and its number is new, the extents in use plus count plus 1 are at most
+ *   M or M is at least L, and the answer buffers are long enough (the macros below). No
+ *   reclaim raises the number of extents or changes what a logical page holds.
+ *   With M smaller than that the write may be refused 6, NoNodes, and reclaiming does not
+ *   help: M must be larger from the start. M = L is never too small; where that is above
+ *   8,192 or too much memory, M is as many runs as the map may break into: a write of n
+ *   pages adds at most n + 1, a trim at most 1.
+ *
+ * What a call costs
+ *   Every call but fresh tests the whole state, so it reads every lent word: 3M + 2B + B x N
+ *   of them. On the largest device the calls took 1.2 to 1.5 times as long as one sum over
+ *   these words with few extents in use and, with 8,192, 3.8 to 5.3 times, a reclaim 10
+ *   times; that sum is of 1.1 MB (docs/BENCHMARK.md).
+ *
+ * Crashes
+ *   The library keeps nothing, so what a crash leaves is what the host made durable, and in
+ *   which order:
+ *     a write    program the pages of the answer; save the head and the words; acknowledge
+ *     a trim     save; acknowledge
+ *     a reclaim  copy the pages of the answer; save; erase the block
+ *     fresh      forget the state that was saved; erase every block; save
+ *   Each step begins when the one before it is durable. To save is to put a state in the place
+ *   of the last one such that a crash leaves the one or the other, whole.
+ *   A host that goes on after a crash takes the state that was saved last and, before any other
+ *   call, sees to it that the flash is erased from each block's fill on: it erases the reserve
+ *   block, and clears each block with a page programmed at or past its fill. No call does that
+ *   for it: docs/CRASHES.md says how, what each crash leaves, and what is proved of it.
+ *   Then every acknowledged request is there, one that was not has happened as a whole or not at
+ *   all, and may be sent again: if it has happened, it is refused 4.
  */
 #ifndef UTASIRO_H
 #define UTASIRO_H
@@ -42,11 +94,36 @@
 extern "C" {
 #endif
 
+/* The version of this header, 0.1.0 as 100. utasiro_version gives that of the library that is linked. */
+#define UTASIRO_VERSION_MAJOR 0
+#define UTASIRO_VERSION_MINOR 1
+#define UTASIRO_VERSION_PATCH 0
+#define UTASIRO_VERSION (UTASIRO_VERSION_MAJOR * 10000 + UTASIRO_VERSION_MINOR * 100 + UTASIRO_VERSION_PATCH)
+
+/* The largest sizes. */
+#define UTASIRO_MOST_BLOCKS 1024
+#define UTASIRO_MOST_PAGES 256
+#define UTASIRO_MOST_SLOTS 8192
+
+/* The words of each buffer of a state, for sizes within their bounds. */
+#define UTASIRO_EXTENT_WORDS(slots) ((size_t)3 * (slots))
+#define UTASIRO_BLOCK_WORDS(blocks) ((size_t)2 * (blocks))
+#define UTASIRO_SPARE_WORDS(blocks, pages) ((size_t)(blocks) * (pages))
+
+/*
+ * The words of the longest answers: to a write of count pages, to a read of count pages, to a read of any range with so
+ * many extents in use, and to a reclaim.
+ */
+#define UTASIRO_WRITE_WORDS(count) ((size_t)3 * (count))
+#define UTASIRO_READ_WORDS(count) ((size_t)3 * (count))
+#define UTASIRO_READ_ALL_WORDS(used) ((size_t)6 * (used) + 3)
+#define UTASIRO_RECLAIM_WORDS(pages) ((size_t)(pages))
+
 /* The refusals, in the order in which they are tested (a reclaim tests 8 directly after 2). */
 enum utasiro_refusal {
     UTASIRO_ACCEPTED = 0,
-    UTASIRO_SHAPE = 1,         /* Shape: a size or the length of a state buffer breaks the numbers above. All calls. */
-    UTASIRO_DAMAGED = 2,       /* Damaged: the state isn't sound. All calls but fresh. */
+    UTASIRO_SHAPE = 1,         /* Shape: a size is outside its bounds, or a state buffer has another length. All calls. */
+    UTASIRO_DAMAGED = 2,       /* Damaged: the head and the words are no sound state. All calls but fresh. */
     UTASIRO_RANGE = 3,         /* Range: count is 0, start + count > L as whole numbers, or a write with count > N. Write, trim, read. */
     UTASIRO_APPLIED = 4,       /* Applied: the number is not above the last accepted one. Write, trim. */
     UTASIRO_NO_PAGES = 5,      /* NoPages: count > free. Write. */
@@ -54,6 +131,22 @@ enum utasiro_refusal {
     UTASIRO_OUT_SHORT = 7,     /* OutShort: the answer buffer is shorter than the answer. Write, read, reclaim. */
     UTASIRO_NOTHING_STALE = 8  /* NothingStale: no page is stale. Reclaim. */
 };
+
+/* The name of a refusal, "Accepted" for 0, and "Unknown" for a number that none has. */
+static inline const char *utasiro_refusal_name(uint32_t refusal) {
+    switch (refusal) {
+    case UTASIRO_ACCEPTED: return "Accepted";
+    case UTASIRO_SHAPE: return "Shape";
+    case UTASIRO_DAMAGED: return "Damaged";
+    case UTASIRO_RANGE: return "Range";
+    case UTASIRO_APPLIED: return "Applied";
+    case UTASIRO_NO_PAGES: return "NoPages";
+    case UTASIRO_NO_NODES: return "NoNodes";
+    case UTASIRO_OUT_SHORT: return "OutShort";
+    case UTASIRO_NOTHING_STALE: return "NothingStale";
+    default: return "Unknown";
+    }
+}
 
 /* The physical start of a hole in a read, and the label of an erased page. */
 #define UTASIRO_HOLE UINT32_C(4294967295)
@@ -93,12 +186,15 @@ typedef struct {
     utasiro_head head;
 } utasiro_counts;
 
+/* The version of the library, as UTASIRO_VERSION has it. */
+uint32_t utasiro_version(void);
+
 /*
  * Makes a fresh device: no extents, nothing programmed, reserve B-1, last number 0.
  * Lent: buffers for the sizes; what they hold does not matter.
  * Comes back: the head of the device; refused, the four sizes as given and zero elsewhere.
  * Refusals: 1 Shape.
- * Then: the host erases every block.
+ * Then: the host erases every block, and saves the state.
  */
 utasiro_outcome utasiro_fresh(uint32_t blocks, uint32_t pages, uint32_t logical, uint32_t slots,
                               uint32_t *extents, size_t extents_len,
@@ -107,13 +203,14 @@ utasiro_outcome utasiro_fresh(uint32_t blocks, uint32_t pages, uint32_t logical,
 
 /*
  * Writes count logical pages from start on, 1 to N of them. number is above that of
- * every write and trim accepted before; one that is not is refused 4, so a request
- * sent again after a crash does no harm. A refused request does not use its number up.
- * Lent: the state, and an answer buffer of three words a piece; 3 x count words suffice.
+ * every write and trim accepted before; one that is not is refused 4, so a request that is
+ * sent again is applied once. A refused request does not use its number up.
+ * Lent: the state, and an answer buffer of three words a piece; UTASIRO_WRITE_WORDS(count) suffice.
  * Comes back: count pieces in answer, each three words: logical start, physical start,
  * page count, one piece for each block used.
  * Refusals: 1 Shape, 2 Damaged, 3 Range, 4 Applied, 5 NoPages, 6 NoNodes, 7 OutShort.
- * Then: the host programs the pages of each piece, in order.
+ * Then: the host programs the pages of each piece, in order, saves the state, and only
+ * then acknowledges the request.
  */
 utasiro_outcome utasiro_write(utasiro_head head, uint32_t *extents, size_t extents_len,
                               uint32_t *blocks, size_t blocks_len, uint32_t *spare, size_t spare_len,
@@ -126,7 +223,7 @@ utasiro_outcome utasiro_write(utasiro_head head, uint32_t *extents, size_t exten
  * Lent: the state; spare is only read.
  * Comes back: the head.
  * Refusals: 1 Shape, 2 Damaged, 3 Range, 4 Applied, 6 NoNodes.
- * Then: the host has nothing to do.
+ * Then: the host saves the state, and only then acknowledges the request.
  */
 utasiro_outcome utasiro_trim(utasiro_head head, uint32_t *extents, size_t extents_len,
                              uint32_t *blocks, size_t blocks_len, const uint32_t *spare, size_t spare_len,
@@ -134,8 +231,8 @@ utasiro_outcome utasiro_trim(utasiro_head head, uint32_t *extents, size_t extent
 
 /*
  * Translates count logical pages from start on.
- * Lent: the state, only read, and an answer buffer of three words a piece; 3 x count
- * words suffice, and so do 6 x (extents in use) + 3.
+ * Lent: the state, only read, and an answer buffer of three words a piece;
+ * UTASIRO_READ_WORDS(count) suffice, and so do UTASIRO_READ_ALL_WORDS(extents in use).
  * Comes back: count pieces in answer in logical order, each three words: logical start,
  * physical start, page count. The physical start of a hole is UTASIRO_HOLE. The head as given.
  * Refusals: 1 Shape, 2 Damaged, 3 Range, 7 OutShort.
@@ -153,7 +250,7 @@ utasiro_outcome utasiro_read(utasiro_head head, const uint32_t *extents, size_t 
  * and not words: M, where utasiro_read has 3M. The answer buffer is as for utasiro_read.
  * Comes back: as from utasiro_read.
  * Refusals: 1 Shape, for any other number of records too, 2 Damaged, 3 Range, 7 OutShort.
- * Stack: 98,304 bytes for the words of the records, beside the 8 KB that do for any call.
+ * Stack: 98,304 bytes for the words of the records, beside the 8 KB that do for the other calls.
  * Then: the host reads the physical pages that it wants.
  */
 utasiro_outcome utasiro_read_records(utasiro_head head, const utasiro_extent *extents, size_t extents_len,
@@ -163,11 +260,12 @@ utasiro_outcome utasiro_read_records(utasiro_head head, const utasiro_extent *ex
 
 /*
  * Reclaims the block with most stale pages, the lowest-numbered on a tie (the victim).
- * Lent: the state, and an answer buffer of one word a copied page; N words suffice.
+ * Lent: the state, and an answer buffer of one word a copied page; UTASIRO_RECLAIM_WORDS(N) suffice.
  * Comes back: count source pages in answer; the new head's reserve is the victim.
  * Refusals: 1 Shape, 2 Damaged, 8 NothingStale, 6 NoNodes, 7 OutShort.
  * Then: the host copies the source pages in order to the pages of the old reserve (the
- * reserve of the head that went in) from its first on, and after that erases the victim.
+ * reserve of the head that went in) from its first on, saves the state, and only then erases
+ * the victim.
  */
 utasiro_outcome utasiro_reclaim(utasiro_head head, uint32_t *extents, size_t extents_len,
                                 uint32_t *blocks, size_t blocks_len, uint32_t *spare, size_t spare_len,

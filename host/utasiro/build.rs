@@ -15,7 +15,9 @@ fn main() {
     if let Err(why) = fits(&library) {
         eprintln!("{why}");
         eprintln!("`rt staticlib utasiro` writes the library to target/staticlib, for x86-64. `host/library` makes one");
-        eprintln!("that programs of this machine can link and prints its folder: set UTASIRO_LIB_DIR to that.");
+        eprintln!(
+            "that programs of this machine can link and prints its folder: set UTASIRO_LIB_DIR to that."
+        );
         process::exit(1);
     }
     println!("cargo:rustc-link-search=native={}", folder.display());
@@ -31,7 +33,8 @@ fn default_folder() -> PathBuf {
 fn fits(library: &Path) -> Result<(), String> {
     let at = library.display();
     let archive = fs::read(library).map_err(|error| format!("There is no library at {at}: {error}."))?;
-    let machine = machine_of(&archive).ok_or_else(|| format!("{at} is no archive with an ELF object in it."))?;
+    let machine =
+        machine_of(&archive).ok_or_else(|| format!("{at} is no archive with an ELF object in it."))?;
     let wanted = env::var("CARGO_CFG_TARGET_ARCH").expect("cargo names the processor");
     let known = PROCESSORS.iter().find(|(_, number)| *number == machine);
     let found = known.map_or_else(|| format!("ELF machine {machine}"), |(name, _)| name.to_string());

@@ -2,6 +2,8 @@
 //! must be there, what was not must have happened as a whole or not at all, a request sent again must be taken once, and
 //! the flash must never be asked what would spoil it.
 
+use std::fmt;
+
 use compare::{random, times};
 use plain::random::Random;
 use utasiro::{Board, Failure, Refusal, Saved, Sizes, Store};
@@ -60,13 +62,22 @@ impl Chip {
         first as usize..(first + self.pages_of_block) as usize
     }
 
-    /// How the next step is left: as a whole, or stopped at.
-    fn step(&mut self) -> Result<(), Cut> {
+    /// How the next step is left, and what it returns.
+    fn step(&mut self) -> (Cut, Result<(), Stopped>) {
         self.steps += 1;
         match self.stop {
-            Some((steps, cut)) if self.steps > steps => Err(cut),
-            _ => Ok(()),
+            Some((steps, cut)) if self.steps > steps => (cut, Err(Stopped)),
+            _ => (Cut::Done, Ok(())),
         }
+    }
+
+    /// What is saved is the one or the other, and never a part.
+    fn keep(&mut self, state: Option<&Saved>) -> Result<(), Stopped> {
+        let (cut, returned) = self.step();
+        if !matches!(cut, Cut::Undone) {
+            self.saved = state.cloned();
+        }
+        returned
     }
 }
 
@@ -77,19 +88,17 @@ impl Board for Chip {
         let (block, at) = (self.block_of(page), page as usize);
         assert!(self.pages[at..block.end].iter().all(|&p| p == Page::Erased), "page {page} is not erased");
         let before = &self.pages[block.start..at];
-        assert!(before.iter().all(|p| matches!(p, Page::Holds(_))), "page {page} comes before an earlier one");
-        match self.step() {
-            Ok(()) => self.pages[at] = Page::Holds(contents),
-            Err(cut) => {
-                self.pages[at] = match cut {
-                    Cut::Undone => Page::Erased,
-                    Cut::HalfDone => Page::Holds(TORN),
-                    Cut::Done => Page::Holds(contents),
-                };
-                return Err(Stopped);
-            }
-        }
-        Ok(())
+        assert!(
+            before.iter().all(|p| matches!(p, Page::Holds(_))),
+            "page {page} comes before an earlier one"
+        );
+        let (cut, returned) = self.step();
+        self.pages[at] = match cut {
+            Cut::Undone => Page::Erased,
+            Cut::HalfDone => Page::Holds(TORN),
+            Cut::Done => Page::Holds(contents),
+        };
+        returned
     }
 
     fn copy(&mut self, source: u32, target: u32) -> Result<(), Stopped> {
@@ -101,10 +110,7 @@ impl Board for Chip {
 
     fn erase(&mut self, block: u32) -> Result<(), Stopped> {
         let pages = self.block_of(block * self.pages_of_block);
-        let (cut, stopped) = match self.step() {
-            Ok(()) => (Cut::Done, Ok(())),
-            Err(cut) => (cut, Err(Stopped)),
-        };
+        let (cut, returned) = self.step();
         for (k, page) in self.pages[pages].iter_mut().enumerate() {
             match cut {
                 Cut::Undone => {}
@@ -112,19 +118,15 @@ impl Board for Chip {
                 Cut::Done => *page = Page::Erased,
             }
         }
-        stopped
+        returned
     }
 
     fn save(&mut self, state: &Saved) -> Result<(), Stopped> {
-        let (is_saved, stopped) = match self.step() {
-            Ok(()) => (true, Ok(())),
-            // Saving is the one or the other, and never in part.
-            Err(cut) => (!matches!(cut, Cut::Undone), Err(Stopped)),
-        };
-        if is_saved {
-            self.saved = Some(state.clone());
-        }
-        stopped
+        self.keep(Some(state))
+    }
+
+    fn forget(&mut self) -> Result<(), Stopped> {
+        self.keep(None)
     }
 
     fn saved(&self) -> Result<Option<Saved>, Stopped> {
@@ -156,6 +158,40 @@ fn ask(store: &mut Store<&mut Chip>, asked: &Asked) -> Answer {
     }
 }
 
+impl fmt::Display for Asked {
+    fn fmt(&self, f: &mut fmt::Formatter<'_>) -> fmt::Result {
+        match self {
+            Asked::Write { number, start, contents } => {
+                write!(f, "write {number} {start} {}", contents.len())
+            }
+            Asked::Trim { number, start, count } => write!(f, "trim {number} {start} {count}"),
+            Asked::Reclaim => write!(f, "reclaim"),
+        }
+    }
+}
+
+/// What was asked so far, as a request list, told if the test fails.
+struct Told {
+    sizes: Sizes,
+    asked: Vec<Asked>,
+    /// Where the last request, and going on after it, were cut short.
+    cuts: Vec<(u32, Cut)>,
+}
+
+impl Drop for Told {
+    fn drop(&mut self) {
+        if std::thread::panicking() {
+            let Sizes { blocks, pages, logical, slots } = self.sizes;
+            eprintln!("fresh {blocks} {pages} {logical} {slots}");
+            self.asked.iter().for_each(|asked| eprintln!("{asked}"));
+            eprintln!(
+                "# cut short after so many steps of the board, counted from each opening: {:?}",
+                self.cuts
+            );
+        }
+    }
+}
+
 /// What each logical page is to hold.
 type Table = Vec<Option<u64>>;
 
@@ -182,31 +218,31 @@ struct Trial<'a> {
     chip: &'a Chip,
     before: &'a Table,
     asked: &'a Asked,
-    /// Whether it must not be counted as refused.
-    is_accepted: bool,
 }
 
 impl Trial<'_> {
-    /// The request cut short at each of its steps, and going on after each.
-    fn cut_everywhere(&self, random: &mut Random, again: u32) {
+    /// The request cut short at each of its steps, if it is not refused, and going on after each.
+    fn cut_everywhere(&self, random: &mut Random, again: u32, told: &mut Told) {
         let mut whole = self.chip.stopping(None);
         let mut store = open(&mut whole);
         let opening = store.board().steps;
-        let answer = ask(&mut store, self.asked);
-        assert_eq!(answer.is_ok(), self.is_accepted, "{:?}: {answer:?}", self.asked);
+        if ask(&mut store, self.asked).is_err() {
+            return;
+        }
         let steps = whole.steps;
         for step in opening..steps {
             for cut in CUTS {
                 let mut chip = self.chip.stopping(Some((step, cut)));
+                told.cuts = vec![(step, cut)];
                 let stopped = ask(&mut open(&mut chip), self.asked);
                 assert_eq!(stopped, Err(Failure::Board(Stopped)));
-                self.go_on(&chip, random, again);
+                self.go_on(&chip, random, again, told);
             }
         }
     }
 
     /// Goes on from a chip that has stopped; and, so many times again, from one that stopped while going on.
-    fn go_on(&self, chip: &Chip, random: &mut Random, again: u32) {
+    fn go_on(&self, chip: &Chip, random: &mut Random, again: u32, told: &mut Told) {
         if again > 0 {
             let mut whole = chip.stopping(None);
             open(&mut whole);
@@ -215,9 +251,12 @@ impl Trial<'_> {
             let most = if all <= 12 { all } else { 4 };
             for k in 0..most {
                 let step = if most == all { k } else { random.between(0, all - 1) };
-                let mut stopped = chip.stopping(Some((step, random.pick(&CUTS))));
+                let cut = random.pick(&CUTS);
+                told.cuts.push((step, cut));
+                let mut stopped = chip.stopping(Some((step, cut)));
                 assert!(matches!(Store::open(&mut stopped), Err(Failure::Board(Stopped))));
-                self.go_on(&stopped, random, again - 1);
+                self.go_on(&stopped, random, again - 1, told);
+                told.cuts.pop();
             }
         }
         let mut chip = chip.stopping(None);
@@ -258,7 +297,10 @@ fn check_erased(store: &Store<&mut Chip>) {
     for block in 0..device.head().blocks {
         let fill = device.blocks()[2 * block as usize];
         let pages = &chip.pages[chip.block_of(block * chip.pages_of_block)];
-        assert!(pages[fill as usize..].iter().all(|&page| page == Page::Erased), "block {block} past its fill");
+        assert!(
+            pages[fill as usize..].iter().all(|&page| page == Page::Erased),
+            "block {block} past its fill"
+        );
     }
 }
 
@@ -282,14 +324,13 @@ fn history(random: &mut Random, sizes: Sizes, requests: u32, again: u32) -> u32 
     let mut chip = Chip::new(sizes);
     Store::fresh(&mut chip, sizes).expect("sizes that fit");
     let mut table: Table = vec![None; sizes.logical as usize];
+    let mut told = Told { sizes, asked: Vec::new(), cuts: Vec::new() };
     let mut accepted = 0;
     for number in 1..=u64::from(requests) {
         let asked = next_request(random, sizes, number);
-        let is_accepted = ask(&mut open(&mut chip.stopping(None)), &asked).is_ok();
-        Trial { chip: &chip, before: &table, asked: &asked, is_accepted }.cut_everywhere(random, again);
-        if is_accepted {
-            let mut store = open(&mut chip);
-            ask(&mut store, &asked).expect("it was accepted before");
+        told.asked.push(asked.clone());
+        Trial { chip: &chip, before: &table, asked: &asked }.cut_everywhere(random, again, &mut told);
+        if ask(&mut open(&mut chip), &asked).is_ok() {
             table = after(table, &asked);
             accepted += 1;
         }
@@ -319,22 +360,37 @@ fn small_devices_cut_short_once() {
     }
 }
 
-/// A fresh device whose making is cut short has nothing saved, and is made again.
+/// A board made fresh again, cut short at each step: what it held is there as it was, or nothing is saved, or it is fresh.
 #[test]
 fn fresh_cut_short() {
     let sizes = Sizes { blocks: 4, pages: 3, logical: 6, slots: 6 };
-    for step in 0..=4 {
+    let mut used = Chip::new(sizes);
+    let mut store = Store::fresh(&mut used, sizes).expect("sizes that fit");
+    store.write(1, 0, &[10, 11, 12]).expect("it is accepted");
+    let old = store.read(0, 6);
+    let mut found = [0; 3];
+    for step in 0..=5 {
         for cut in CUTS {
-            let mut chip = Chip::new(sizes).stopping(Some((step, cut)));
+            let mut chip = used.stopping(Some((step, cut)));
             assert!(matches!(Store::fresh(&mut chip, sizes), Err(Failure::Board(Stopped))));
             let mut chip = chip.stopping(None);
-            if chip.saved.is_none() {
-                assert!(matches!(Store::open(&mut chip), Err(Failure::NothingSaved)));
-                Store::fresh(&mut chip, sizes).expect("sizes that fit");
+            match Store::open(&mut chip) {
+                Ok(store) if store.read(0, 6) == old => found[0] += 1,
+                Ok(store) => {
+                    assert_eq!(store.read(0, 6), Ok(vec![None; 6]));
+                    found[2] += 1;
+                }
+                Err(failure) => {
+                    assert_eq!(failure, Failure::NothingSaved);
+                    found[1] += 1;
+                }
             }
-            assert_eq!(open(&mut chip).read(0, 6), Ok(vec![None; 6]));
+            let store = Store::fresh(&mut chip, sizes).expect("sizes that fit");
+            assert_eq!(store.read(0, 6), Ok(vec![None; 6]));
         }
     }
+    // Only before it is forgotten, and only once all is saved.
+    assert_eq!(found, [1, 15, 2]);
 }
 
 /// A store whose board has failed does nothing more until it is opened again.

@@ -25,7 +25,10 @@ pub trait Board {
     /// sum, will do.
     fn save(&mut self, state: &Saved) -> Result<(), Self::Fault>;
 
-    /// What was saved last; none on a board that no state was ever saved on.
+    /// Forgets what was saved, as if nothing ever was.
+    fn forget(&mut self) -> Result<(), Self::Fault>;
+
+    /// What was saved last; none where nothing was, or where it was forgotten.
     fn saved(&self) -> Result<Option<Saved>, Self::Fault>;
 
     /// What a page holds; none only if it is erased. A page whose programming was cut short is
@@ -59,6 +62,10 @@ impl<B: Board + ?Sized> Board for &mut B {
 
     fn save(&mut self, state: &Saved) -> Result<(), Self::Fault> {
         (**self).save(state)
+    }
+
+    fn forget(&mut self) -> Result<(), Self::Fault> {
+        (**self).forget()
     }
 
     fn saved(&self) -> Result<Option<Saved>, Self::Fault> {
@@ -102,6 +109,11 @@ impl Board for SimulatedBoard {
 
     fn save(&mut self, state: &Saved) -> Result<(), Fault> {
         self.saved = Some(state.clone());
+        Ok(())
+    }
+
+    fn forget(&mut self) -> Result<(), Fault> {
+        self.saved = None;
         Ok(())
     }
 

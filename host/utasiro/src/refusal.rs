@@ -75,7 +75,9 @@ impl Refusal {
 
     fn reason(self) -> &'static str {
         match self {
-            Refusal::Shape => "a size is outside its bounds, or a buffer has another length than the sizes ask for",
+            Refusal::Shape => {
+                "a size is outside its bounds, or a buffer has another length than the sizes ask for"
+            }
             Refusal::Damaged => "the head and the words are no sound state",
             Refusal::Range => "no pages, pages outside the device, or a write longer than a block",
             Refusal::Applied => "the number is not above the last accepted one",

@@ -1,7 +1,7 @@
 //! A device on a board, in the order that outlives a crash. A write: its pages are programmed,
 //! then the state is saved, then it is acknowledged. A trim: saved, then acknowledged. A reclaim:
-//! its pages are copied, then the state is saved, then the block is erased. docs/CRASHES.md says
-//! what each crash leaves, and why this order; the appliance's own code may follow this file.
+//! its pages are copied, then the state is saved, then the block is erased. docs/CRASHES.md of the
+//! repository says what each crash leaves, and why this order; an appliance may follow this file.
 
 use std::error::Error;
 use std::fmt;
@@ -20,7 +20,7 @@ pub enum Failure<F> {
     Board(F),
     /// An earlier step failed, and the board was not opened again since.
     Closed,
-    /// Nothing was ever saved on this board: it must be made fresh.
+    /// Nothing is saved on this board: it must be made fresh.
     NothingSaved,
 }
 
@@ -36,7 +36,7 @@ impl<F: fmt::Display> fmt::Display for Failure<F> {
             Failure::Refused(refusal) => write!(f, "refused {refusal}"),
             Failure::Board(fault) => write!(f, "the board failed: {fault}"),
             Failure::Closed => write!(f, "an earlier step failed, and the board was not opened again since"),
-            Failure::NothingSaved => write!(f, "nothing was ever saved on this board"),
+            Failure::NothingSaved => write!(f, "nothing is saved on this board"),
         }
     }
 }
@@ -81,9 +81,11 @@ impl Store<SimulatedBoard> {
 }
 
 impl<B: Board> Store<B> {
-    /// A fresh device: every block is erased, then the state is saved. What the board held is lost.
+    /// A fresh device: what was saved is forgotten, every block is erased, then the state is saved.
+    /// Sizes that are refused leave the board as it was.
     pub fn fresh(mut board: B, sizes: Sizes) -> Result<Store<B>, Failure<B::Fault>> {
         let device = Device::fresh(sizes)?;
+        board.forget().map_err(Failure::Board)?;
         for block in 0..sizes.blocks {
             board.erase(block).map_err(Failure::Board)?;
         }
