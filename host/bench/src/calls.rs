@@ -5,6 +5,7 @@
 use std::hint::black_box;
 use std::time::Instant;
 
+use compare::to_library;
 use plain::{generate, Head, Layer, Plain, Words};
 use utasiro::{ffi, Device};
 
@@ -102,8 +103,8 @@ impl Lent {
     /// The same call of the library; its refusal.
     fn library(&mut self, call: Call) -> u32 {
         let middle = self.middle();
-        let Head { blocks, pages, logical, slots, used, reserve, last } = self.head;
-        let head = ffi::Head { blocks, pages, logical, slots, used, reserve, last };
+        let Head { blocks, pages, logical, slots, last, .. } = self.head;
+        let head = to_library(self.head);
         let Words { extents: e, blocks: b, spare: s } = &mut self.words;
         let (el, bl, sl, al) = (e.len(), b.len(), s.len(), self.answer.len());
         let (e, b, s, a) = (e.as_mut_ptr(), b.as_mut_ptr(), s.as_mut_ptr(), self.answer.as_mut_ptr());
@@ -194,9 +195,7 @@ pub fn table(samples: &[Sample]) -> Vec<String> {
 /// A device of the library in a sample's state, for whoever wants to look at one.
 pub fn device(sample: &Sample) -> Device {
     let Lent { head, words, .. } = Lent::of(sample);
-    let Head { blocks, pages, logical, slots, used, reserve, last } = head;
-    let head = ffi::Head { blocks, pages, logical, slots, used, reserve, last };
-    Device::from_parts(head, words.extents, words.blocks, words.spare)
+    Device::from_parts(to_library(head), words.extents, words.blocks, words.spare)
 }
 
 #[cfg(test)]

@@ -62,7 +62,8 @@ impl Arena {
     }
 }
 
-fn to_library(head: Head) -> ffi::Head {
+/// A head as the library takes it.
+pub fn to_library(head: Head) -> ffi::Head {
     let mut to = ffi::Head::default();
     (to.blocks, to.pages, to.logical, to.slots) = (head.blocks, head.pages, head.logical, head.slots);
     (to.used, to.reserve, to.last) = (head.used, head.reserve, head.last);

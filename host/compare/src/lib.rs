@@ -12,7 +12,7 @@
 mod lent;
 mod pair;
 
-pub use lent::{Lent, OverRecords};
+pub use lent::{to_library, Lent, OverRecords};
 pub use pair::{fail, Pair};
 
 use plain::random::Random;

@@ -98,18 +98,20 @@ impl<B: Board> Store<B> {
     /// Goes on from what is durable, whether the store before it ended in peace or in a crash. First
     /// the flash is made such that it is erased from each block's fill on: the reserve is erased, and
     /// a block with pages programmed at or past its fill is put back as the state has it. This may be
-    /// cut short and begun again, any number of times.
+    /// cut short and begun again, any number of times. What was saved and is no state is refused.
     pub fn open(board: B) -> Result<Store<B>, Failure<B::Fault>> {
         let Saved { device, putting_back } =
             board.saved().map_err(Failure::Board)?.ok_or(Failure::NothingSaved)?;
         device.report()?;
+        let (blocks, reserve) = (device.head().blocks, device.head().reserve);
         let mut store = Store { device, board, is_open: false };
-        if let Some(block) = putting_back {
-            store.put_back(block)?;
+        match putting_back {
+            None => {}
+            Some(block) if block < blocks && block != reserve => store.put_back(block)?,
+            Some(_) => return Err(Failure::Refused(Refusal::Damaged)),
         }
-        let reserve = store.device.head().reserve;
         store.erase(reserve)?;
-        for block in 0..store.device.head().blocks {
+        for block in 0..blocks {
             if store.is_programmed_past_fill(block)? {
                 store.clear_past_fill(block)?;
             }
