@@ -36,7 +36,7 @@ fn bytes(
     s
 }
 
-// Reads once, and answers what came.
+// Reads once, and answers what came: it is printed before the next read, which may have to wait.
 fn turn(
     mut session: Session,
     ext: &mut [u32; 3072],
@@ -64,11 +64,13 @@ fn turn(
         };
     }
     let n = io::count(got, &piece);
-    let after = bytes(session, ext, blk, spare, out, page, &piece[..n]);
+    let mut after = bytes(session, ext, blk, spare, out, page, &piece[..n]);
     let sink = after.sink;
+    let printed = sink.flushed(page);
+    after.sink = printed;
     Came {
         session: after,
-        is_over: !sink.is_written,
+        is_over: !printed.is_written,
     }
 }
 
