@@ -1,14 +1,26 @@
-// Words, numbers and sums of money on standard output.
+// Words, numbers and sums of money on standard output. Where it cannot be printed on, standard error says why, once.
+use libc::STDERR_FILENO;
 use libc::STDOUT_FILENO;
 use rules::Refusal;
 use rules::number_of;
 
 pub fn text(text: &[u8]) {
-    io::write_all(STDOUT_FILENO, text);
+    if !io::write_all(STDOUT_FILENO, text) {
+        stop();
+    }
 }
 
 pub fn number(n: u64) {
-    io::print_decimal(STDOUT_FILENO, n);
+    if !io::print_decimal(STDOUT_FILENO, n) {
+        stop();
+    }
+}
+
+// Says why the last write failed. With both streams closed nothing is printed after a gap, and nothing said again.
+fn stop() {
+    os::fail(b"standard output");
+    libc::close(STDOUT_FILENO);
+    libc::close(STDERR_FILENO);
 }
 
 pub fn word(n: u32) {

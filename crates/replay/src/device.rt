@@ -9,12 +9,21 @@ use rules::Head;
 use rules::Listed;
 use rules::Refusal;
 
-// The most of B x N and of M that is held, and as much room as any answer needs: a read of single pages.
-pub const MOST_PAGES: usize = 4096;
+// The most of B, of B x N and of M that is held: those of the largest device.
+const MOST_BLOCKS: usize = 1024;
 
-pub const MOST_SLOTS: usize = 1024;
+const MOST_PAGES: usize = 262144;
 
-pub const MOST_ROOM: usize = 12288;
+const MOST_SLOTS: usize = 8192;
+
+// The words that these ask for. No answer is longer than a read of all slots with a hole before each and after the last.
+pub const EXTENT_WORDS: usize = 3 * MOST_SLOTS;
+
+pub const BLOCK_WORDS: usize = 2 * MOST_BLOCKS;
+
+pub const SPARE_WORDS: usize = MOST_PAGES;
+
+pub const ANSWER_WORDS: usize = 6 * MOST_SLOTS + 3;
 
 // The head, and how many words of each buffer are lent.
 pub struct Device {
@@ -58,7 +67,7 @@ impl Device {
             extents: 0,
             blocks: 0,
             spare: 0,
-            room: MOST_ROOM,
+            room: ANSWER_WORDS,
         }
     }
 
@@ -76,7 +85,11 @@ impl Device {
 
     pub fn room(mut self, words: u32) -> Step {
         let room = words as usize;
-        self.room = if room < MOST_ROOM { room } else { MOST_ROOM };
+        self.room = if room < ANSWER_WORDS {
+            room
+        } else {
+            ANSWER_WORDS
+        };
         self.says(Answer::Ok)
     }
 
@@ -206,8 +219,8 @@ pub fn report(d: Device, ext: &[u32], blk: &[u32], spare: &[u32]) -> Step {
     d.counted(counted)
 }
 
-// Sizes that are not held are no request. Only N = 0, which is refused whatever the lengths, leaves B without a bound: then no
-// more blocks are lent than are held. A refused fresh changes no word, and the device from before stays.
+// Sizes that are not held are no request, but for B: more blocks than are held are refused whatever the lengths, and no more are lent. A
+// refused fresh changes no word, and the device from before stays.
 pub fn fresh(
     d: Device,
     ext: &mut [u32],

@@ -6,6 +6,10 @@ mod print;
 mod session;
 mod word;
 
+use device::ANSWER_WORDS;
+use device::BLOCK_WORDS;
+use device::EXTENT_WORDS;
+use device::SPARE_WORDS;
 use libc::STDERR_FILENO;
 use libc::STDIN_FILENO;
 use line::Line;
@@ -20,10 +24,10 @@ struct Came {
 // Answers the lines that end in a piece of the list.
 fn bytes(
     session: Session,
-    ext: &mut [u32; 3072],
-    blk: &mut [u32; 8192],
-    spare: &mut [u32; 4096],
-    out: &mut [u32; 12288],
+    ext: &mut [u32; EXTENT_WORDS],
+    blk: &mut [u32; BLOCK_WORDS],
+    spare: &mut [u32; SPARE_WORDS],
+    out: &mut [u32; ANSWER_WORDS],
     page: &mut [u8; 4096],
     piece: &[u8],
 ) -> Session {
@@ -36,13 +40,13 @@ fn bytes(
     s
 }
 
-// Reads once, and answers what came.
+// Reads once, and answers what came: it is printed before the next read, which may have to wait.
 fn turn(
     mut session: Session,
-    ext: &mut [u32; 3072],
-    blk: &mut [u32; 8192],
-    spare: &mut [u32; 4096],
-    out: &mut [u32; 12288],
+    ext: &mut [u32; EXTENT_WORDS],
+    blk: &mut [u32; BLOCK_WORDS],
+    spare: &mut [u32; SPARE_WORDS],
+    out: &mut [u32; ANSWER_WORDS],
     page: &mut [u8; 4096],
     list: i32,
     name: &[u8],
@@ -64,21 +68,23 @@ fn turn(
         };
     }
     let n = io::count(got, &piece);
-    let after = bytes(session, ext, blk, spare, out, page, &piece[..n]);
+    let mut after = bytes(session, ext, blk, spare, out, page, &piece[..n]);
     let sink = after.sink;
+    let printed = sink.flushed(page);
+    after.sink = printed;
     Came {
         session: after,
-        is_over: !sink.is_written,
+        is_over: !printed.is_written,
     }
 }
 
 // A proved loop has to end, and nothing says that a list does: the turns are counted down from a number that no run uses up.
 fn turns(
     session: Session,
-    ext: &mut [u32; 3072],
-    blk: &mut [u32; 8192],
-    spare: &mut [u32; 4096],
-    out: &mut [u32; 12288],
+    ext: &mut [u32; EXTENT_WORDS],
+    blk: &mut [u32; BLOCK_WORDS],
+    spare: &mut [u32; SPARE_WORDS],
+    out: &mut [u32; ANSWER_WORDS],
     page: &mut [u8; 4096],
     list: i32,
     name: &[u8],
@@ -98,10 +104,10 @@ fn turns(
 
 // Answers a whole list. Its last line may lack the line feed.
 fn answer(list: i32, name: &[u8]) {
-    let mut ext = [0u32; 3072];
-    let mut blk = [0u32; 8192];
-    let mut spare = [0u32; 4096];
-    let mut out = [0u32; 12288];
+    let mut ext = [0u32; EXTENT_WORDS];
+    let mut blk = [0u32; BLOCK_WORDS];
+    let mut spare = [0u32; SPARE_WORDS];
+    let mut out = [0u32; ANSWER_WORDS];
     let mut page = io::buffer();
     let s = turns(
         Session::new(),

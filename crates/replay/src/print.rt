@@ -25,9 +25,13 @@ impl Sink {
         self.emptied(page)
     }
 
+    // What follows bytes that could not be written is not written either.
     fn emptied(mut self, page: &[u8]) -> Self {
         let n = self.waiting;
         self.waiting = 0;
+        if !self.is_written {
+            return self;
+        }
         if n > page.len() {
             return self;
         }

@@ -1,7 +1,11 @@
 // One line after the other: what is asked is done to what is lent, and the answer printed.
 use crate::device;
+use crate::device::ANSWER_WORDS;
 use crate::device::Answer;
+use crate::device::BLOCK_WORDS;
 use crate::device::Device;
+use crate::device::EXTENT_WORDS;
+use crate::device::SPARE_WORDS;
 use crate::device::Step;
 use crate::device::within;
 use crate::line::Asked;
@@ -30,10 +34,10 @@ impl Session {
     // Reads a byte of the list.
     pub fn byte(
         mut self,
-        ext: &mut [u32; 3072],
-        blk: &mut [u32; 8192],
-        spare: &mut [u32; 4096],
-        out: &mut [u32; 12288],
+        ext: &mut [u32; EXTENT_WORDS],
+        blk: &mut [u32; BLOCK_WORDS],
+        spare: &mut [u32; SPARE_WORDS],
+        out: &mut [u32; ANSWER_WORDS],
         page: &mut [u8; 4096],
         byte: u8,
     ) -> Self {
@@ -49,10 +53,10 @@ impl Session {
     // Answers the line that has ended.
     pub fn line_end(
         self,
-        ext: &mut [u32; 3072],
-        blk: &mut [u32; 8192],
-        spare: &mut [u32; 4096],
-        out: &mut [u32; 12288],
+        ext: &mut [u32; EXTENT_WORDS],
+        blk: &mut [u32; BLOCK_WORDS],
+        spare: &mut [u32; SPARE_WORDS],
+        out: &mut [u32; ANSWER_WORDS],
         page: &mut [u8; 4096],
     ) -> Self {
         let line = self.line;

@@ -5,12 +5,13 @@ use std::fmt;
 
 use crate::{Head, Layer, Outcome, Refusal, Words};
 
-/// The most of B x N that is held.
-pub const MOST_PAGES: u32 = 4096;
-/// The most of M that is held.
-pub const MOST_SLOTS: u32 = 1024;
-/// As much room as any answer needs: a read of single pages.
-pub const MOST_ROOM: u32 = 3 * MOST_PAGES;
+/// The most of B x N that is held: that of the largest device.
+pub const MOST_PAGES: u32 = 262_144;
+/// The most of M that is held, likewise.
+pub const MOST_SLOTS: u32 = 8192;
+/// As much room as any answer needs: a read of all slots with a hole before
+/// each and after the last.
+pub const MOST_ROOM: u32 = 3 * (2 * MOST_SLOTS + 1);
 
 /// A line of a request list.
 #[derive(Clone, Copy, Debug, PartialEq, Eq)]
