@@ -31,7 +31,7 @@ enum { SHARED_BYTES = 1 << 24, FIRST_WORD = 256, MOST_WORDS = (SHARED_BYTES / 4)
 
 #define GUARD UINT32_C(0x5EEDB41D)
 
-/* The file descriptor that the server maps. */
+/* The file descriptor that the server maps. The bytes come and go by its standard input and output. */
 enum { SHARED_FILE = 3 };
 
 #endif
