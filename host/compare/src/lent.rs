@@ -198,7 +198,7 @@ impl Layer for OverRecords {
         let mut arena = Arena::new(&[e, b, s, answer]);
         let [pe, pb, ps, pa] = arena.pointers();
         let (el, bl, sl, al) = (e.len() / 3, b.len(), s.len(), answer.len());
-        let (head, pe) = (to_library(head), pe.cast_const().cast());
+        let (head, pe) = (to_library(head), pe.cast::<ffi::Extent>());
         // Safety: as of the calls above; a record is three words.
         let done = unsafe { ffi::utasiro_read_records(head, pe, el, pb, bl, ps, sl, start, count, pa, al) };
         arena.check(&[(0, e), (1, b), (2, s)]);

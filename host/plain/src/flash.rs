@@ -63,7 +63,7 @@ impl Flash {
         if self.contents[index].is_some() {
             return Err(Fault::ProgrammedTwice { page });
         }
-        let first_of_block = page.is_multiple_of(self.pages);
+        let first_of_block = page % self.pages == 0;
         if !first_of_block && self.contents[index - 1].is_none() {
             return Err(Fault::OutOfOrder { page });
         }

@@ -86,8 +86,9 @@ pub fn call(random: &mut Random, head: Head) -> [Request; 2] {
 /// A history that all but fills a device from fresh: writes of whole blocks' worth
 /// of pages at random places.
 pub fn filled(random: &mut Random, fresh: Request) -> Vec<Request> {
-    let Request::Fresh { blocks, pages, logical, .. } = fresh else {
-        return vec![fresh];
+    let (blocks, pages, logical) = match fresh {
+        Request::Fresh { blocks, pages, logical, .. } => (blocks, pages, logical),
+        _ => return vec![fresh],
     };
     let count = pages.min(logical);
     let writes = (blocks - 2) * pages / count;
@@ -103,7 +104,7 @@ pub fn filled(random: &mut Random, fresh: Request) -> Vec<Request> {
 /// one of them the reserve. The sizes must be those of document 01.
 pub fn scattered(blocks: u32, pages: u32, logical: u32, slots: u32, extents: u32) -> (Head, Words) {
     let mut device = Device::fresh(blocks, pages, logical, slots);
-    let run = ((blocks - 2) * pages / (2 * extents)).clamp(1, pages.div_ceil(2));
+    let run = ((blocks - 2) * pages / (2 * extents)).clamp(1, (pages + 1) / 2);
     let mut left = extents.min(logical / run);
     for block in 0..blocks - 2 {
         let mut offset = 0;

@@ -73,10 +73,12 @@ impl<L: Layer + Clone> Host<L> {
     /// Runs a history, a fresh and then calls, and checks all that must hold; if
     /// not thorough, only that the flash takes what is listed.
     pub fn replay(layer: L, history: &[Request], thorough: bool) -> Checked<Host<L>> {
-        let Some((&Request::Fresh { blocks, pages, logical, slots }, rest)) = history.split_first() else {
-            return Err(String::from("a history begins with fresh"));
+        let (mut host, rest) = match history.split_first() {
+            Some((&Request::Fresh { blocks, pages, logical, slots }, rest)) => {
+                (Host::fresh(layer, blocks, pages, logical, slots)?, rest)
+            }
+            _ => return Err(String::from("a history begins with fresh")),
         };
-        let mut host = Host::fresh(layer, blocks, pages, logical, slots)?;
         host.thorough = thorough;
         rest.iter().try_for_each(|&request| host.run(request))?;
         host.thorough = true;
@@ -181,8 +183,9 @@ impl<L: Layer + Clone> Host<L> {
     /// Refusals 3, 4 and 5 exactly when the rules say; 6 never with a slot for
     /// every logical page, 7 never with as much room as any answer needs.
     fn check_write_refusal(&self, outcome: Outcome, before: Head, free: u32, request: Request) -> Checked {
-        let Request::Write { number, start, count } = request else {
-            return Ok(());
+        let (number, start, count) = match request {
+            Request::Write { number, start, count } => (number, start, count),
+            _ => return Ok(()),
         };
         let out_of_range = count == 0
             || u64::from(start) + u64::from(count) > u64::from(before.logical)

@@ -12,7 +12,7 @@ const MOST_TRIES: u32 = 4000;
 pub fn shortest(list: &[Request], fails: impl Fn(&[Request]) -> bool) -> Vec<Request> {
     let mut shortest = list.to_vec();
     let mut tries = 0;
-    let mut part = shortest.len().div_ceil(2);
+    let mut part = (shortest.len() + 1) / 2;
     while part > 0 && tries < MOST_TRIES {
         let before = shortest.len();
         let mut from = 0;

@@ -12,7 +12,7 @@ fn lists() -> Vec<PathBuf> {
     let entries = fs::read_dir(folder).expect("the folder of request lists");
     let mut lists: Vec<PathBuf> = entries
         .map(|entry| entry.expect("an entry of the folder").path())
-        .filter(|path| path.extension().is_some_and(|extension| extension == "txt"))
+        .filter(|path| path.extension() == Some("txt".as_ref()))
         .collect();
     lists.sort();
     lists
