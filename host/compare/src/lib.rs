@@ -2,18 +2,19 @@
 //!
 //! [`Lent`] is the library as a layer over lent words, and [`OverRecords`] the same
 //! with reads over extent records. [`Pair`] runs one request after the other on a
-//! layer and on plain, and compares every answer and every lent word. The tests try
+//! layer and on plain, and compares every answer and every lent word. `checks` tries
 //! random histories, damaged states, requests sent again, a simulated flash and reads
-//! over records; a failure prints the shortest history it can find as a request list
-//! (docs/REPLAY.md).
+//! over records; a failure comes with the shortest list that it can find
+//! (docs/REPLAY.md), from nothing on.
 //!
 //! `UTASIRO_LONG=1` runs twenty times as much. `UTASIRO_SEED=K` runs others.
 
+pub mod checks;
 mod lent;
 mod pair;
 
 pub use lent::{Lent, OverRecords};
-pub use pair::{fail, Pair};
+pub use pair::{add, Given, History, Pair};
 
 use plain::random::Random;
 
