@@ -5,14 +5,17 @@
 //! layer and on plain, and compares every answer and every lent word. `checks` tries
 //! random histories, damaged states, requests sent again, a simulated flash and reads
 //! over records; a failure comes with the shortest list that it can find
-//! (docs/REPLAY.md), from nothing on.
+//! (docs/REPLAY.md), from nothing on. [`Faulty`] is a layer with a
+//! fault that they must find.
 //!
 //! `UTASIRO_LONG=1` runs twenty times as much. `UTASIRO_SEED=K` runs others.
 
 pub mod checks;
+mod faulty;
 mod lent;
 mod pair;
 
+pub use faulty::{Fault, Faulty};
 pub use lent::{Lent, OverRecords};
 pub use pair::{add, Given, History, Pair};
 
