@@ -65,21 +65,22 @@ pub struct Readers<L, W> {
 }
 
 impl<L: Layer + Clone, W: Layer + Clone> Readers<L, W> {
-    /// One read over records, over words and by plain.
+    /// One read over records and over words, compared with plain's.
     fn same(&self, head: Head, words: &Words, asked: Asked) -> Checked<u32> {
         let [_, request] = asked.requests();
-        let (outcome, answer) = read(&self.over_records, head, words, asked);
-        for (layer, how) in [(&self.over_words as &dyn Layer, "over words"), (&Plain, "by plain")] {
-            let (expected, answer_expected) = read(layer, head, words, asked);
+        let (expected, expected_answer) = read(&Plain, head, words, asked);
+        let over = [(&self.over_records as &dyn Layer, "records"), (&self.over_words, "words")];
+        for (layer, what) in over {
+            let (outcome, answer) = read(layer, head, words, asked);
             let same = same_outcome(request, &outcome, &expected)
-                .and_then(|()| same_buffer(request, "answer", &answer, &answer_expected));
+                .and_then(|()| same_buffer(request, "answer", &answer, &expected_answer));
             same.map_err(|failure| {
-                let records = words.extents.len() / 3;
-                let sentence = format!("over {records} records, then {how}: {}", failure.sentence);
-                Failure { sentence, ..failure }
+                let slots = words.extents.len() / 3;
+                let sentence = format!("over the {what} of {slots} slots, {}", failure.sentence);
+                Failure::new(format!("over {what}, {}", failure.kind), sentence)
             })?;
         }
-        Ok(outcome.refusal)
+        Ok(expected.refusal)
     }
 
     /// A read over so many records; M alone is a number that is not refused 1.
