@@ -244,6 +244,12 @@ static const uint32_t no_words;
 /* The words of records: where there is no such number, more than are held. */
 static size_t words_of(size_t records) { return records > SIZE_MAX / 3 ? SIZE_MAX : 3 * records; }
 
+uint32_t utasiro_version(void) {
+    lent buffers[] = {NONE, NONE, NONE, NONE};
+    bridge_call call = {.kind = VERSION};
+    return make(call, buffers).count;
+}
+
 utasiro_outcome utasiro_fresh(uint32_t blocks, uint32_t pages, uint32_t logical, uint32_t slots, uint32_t *extents,
                               size_t extents_len, uint32_t *blocks_words, size_t blocks_len, uint32_t *spare, size_t spare_len) {
     lent buffers[] = {BOTH(extents, extents_len), BOTH(blocks_words, blocks_len), BOTH(spare, spare_len), NONE};

@@ -22,6 +22,9 @@ static void make(bridge_call *call, uint32_t *words) {
     utasiro_head head = call->head;
     uint32_t start = call->start, count = call->count;
     switch (call->kind) {
+    case VERSION:
+        call->count = utasiro_version();
+        break;
     case FRESH:
         call->outcome = utasiro_fresh(head.blocks, head.pages, head.logical, head.slots, e, len[0], b, len[1], s, len[2]);
         break;

@@ -7,7 +7,7 @@
 
 #include "utasiro.h"
 
-enum bridge_kind { FRESH, WRITE, TRIM, READ, RECLAIM, REPORT, READ_RECORDS };
+enum bridge_kind { VERSION, FRESH, WRITE, TRIM, READ, RECLAIM, REPORT, READ_RECORDS };
 
 /* Extents, blocks, spare and answer, in this order. */
 enum { BUFFERS = 4 };
@@ -15,6 +15,7 @@ enum { BUFFERS = 4 };
 typedef struct {
     uint32_t kind;
     uint32_t start;
+    /* Goes in; of a version, comes back. */
     uint32_t count;
     uint32_t unused;
     uint64_t number;

@@ -2,7 +2,6 @@
 //! against the test of a sound state in plain Rust, and against the same call of
 //! the plain implementation.
 
-use std::hint::black_box;
 use std::time::Instant;
 
 use compare::to_library;
@@ -115,7 +114,7 @@ impl Lent {
                 Call::Read => ffi::utasiro_read(head, e, el, b, bl, s, sl, middle, COUNT, a, al).refusal,
                 Call::ReadAll => ffi::utasiro_read(head, e, el, b, bl, s, sl, 0, logical, a, al).refusal,
                 Call::ReadRecords => {
-                    let records = e.cast_const().cast();
+                    let records = e.cast::<ffi::Extent>();
                     ffi::utasiro_read_records(head, records, el / 3, b, bl, s, sl, middle, COUNT, a, al)
                         .refusal
                 }
@@ -128,6 +127,13 @@ impl Lent {
             }
         }
     }
+}
+
+/// The value itself, where the compiler knows nothing of it: nothing that is measured
+/// is worked out before, or left out.
+fn black_box<T: Copy>(value: T) -> T {
+    // Safety: a reference may be read, and what is read is copied.
+    unsafe { std::ptr::read_volatile(&value) }
 }
 
 fn nanoseconds(run: impl FnOnce()) -> f64 {

@@ -55,7 +55,7 @@ impl Load {
     fn accepted(&mut self) {
         self.number += 1;
         self.most_used = self.most_used.max(self.device.head().used);
-        if self.number.is_multiple_of(500) {
+        if self.number % 500 == 0 {
             progress::show(&format!("map: {}, request {}", self.name, self.number));
         }
     }

@@ -16,6 +16,11 @@ pub struct OverRecords;
 /// Stands before, between and after the buffers.
 const GUARD: u32 = 0x5EED_F1A5;
 
+/// What stands for the refusal of a call that changed a word which it may not change:
+/// one outside the buffers, or of a buffer that is only read.
+pub const OUTSIDE_CHANGED: u32 = 1000;
+pub const ONLY_READ_CHANGED: u32 = 1001;
+
 /// Copies of buffers, one after the other.
 struct Arena {
     words: Vec<u32>,
@@ -51,14 +56,21 @@ impl Arena {
         to.copy_from_slice(self.buffer(k));
     }
 
-    fn check(&self, read_only: &[(usize, &[u32])]) {
-        assert_eq!(self.words[0], GUARD, "a word before the first buffer changed");
-        for &(start, length) in &self.places {
-            assert_eq!(self.words[start + length], GUARD, "a word after a buffer changed");
+    /// The refusal of a call, or what stands for one.
+    fn refusal(&self, given: u32, only_read: &[(usize, &[u32])]) -> u32 {
+        let mut guards = self.places.iter().map(|&(start, length)| start + length).chain([0]);
+        if guards.any(|index| self.words[index] != GUARD) {
+            return OUTSIDE_CHANGED;
         }
-        for &(k, before) in read_only {
-            assert_eq!(self.buffer(k), before, "a buffer that is only read changed");
+        if only_read.iter().any(|&(k, before)| self.buffer(k) != before) {
+            return ONLY_READ_CHANGED;
         }
+        given
+    }
+
+    fn outcome(&self, done: ffi::Outcome, only_read: &[(usize, &[u32])]) -> Outcome {
+        let refusal = self.refusal(done.refusal, only_read);
+        Outcome { refusal, count: done.count, head: from_library(done.head) }
     }
 }
 
@@ -75,10 +87,6 @@ fn from_library(head: ffi::Head) -> Head {
     Head { blocks, pages, logical, slots, used, reserve, last }
 }
 
-fn outcome(outcome: ffi::Outcome) -> Outcome {
-    Outcome { refusal: outcome.refusal, count: outcome.count, head: from_library(outcome.head) }
-}
-
 // Safety of each call: the buffers are parts of an arena that do not overlap, with
 // their own lengths.
 impl Layer for Lent {
@@ -89,11 +97,10 @@ impl Layer for Lent {
         let done = unsafe {
             ffi::utasiro_fresh(blocks, pages, logical, slots, pe, e.len(), pb, b.len(), ps, s.len())
         };
-        arena.check(&[]);
         arena.put_back(0, e);
         arena.put_back(1, b);
         arena.put_back(2, s);
-        outcome(done)
+        arena.outcome(done, &[])
     }
 
     fn write(
@@ -113,12 +120,11 @@ impl Layer for Lent {
             let (el, bl, sl, al) = (e.len(), b.len(), s.len(), answer.len());
             ffi::utasiro_write(head, pe, el, pb, bl, ps, sl, number, start, count, pa, al)
         };
-        arena.check(&[]);
         arena.put_back(0, e);
         arena.put_back(1, b);
         arena.put_back(2, s);
         arena.put_back(3, answer);
-        outcome(done)
+        arena.outcome(done, &[])
     }
 
     fn trim(&self, head: Head, words: &mut Words, number: u64, start: u32, count: u32) -> Outcome {
@@ -128,10 +134,10 @@ impl Layer for Lent {
         let head = to_library(head);
         let done =
             unsafe { ffi::utasiro_trim(head, pe, e.len(), pb, b.len(), ps, s.len(), number, start, count) };
-        arena.check(&[(2, s)]);
+        let outcome = arena.outcome(done, &[(2, s)]);
         arena.put_back(0, e);
         arena.put_back(1, b);
-        outcome(done)
+        outcome
     }
 
     fn read(&self, head: Head, words: &Words, start: u32, count: u32, answer: &mut [u32]) -> Outcome {
@@ -141,9 +147,8 @@ impl Layer for Lent {
         let (el, bl, sl, al) = (e.len(), b.len(), s.len(), answer.len());
         let done =
             unsafe { ffi::utasiro_read(to_library(head), pe, el, pb, bl, ps, sl, start, count, pa, al) };
-        arena.check(&[(0, e), (1, b), (2, s)]);
         arena.put_back(3, answer);
-        outcome(done)
+        arena.outcome(done, &[(0, e), (1, b), (2, s)])
     }
 
     fn reclaim(&self, head: Head, words: &mut Words, answer: &mut [u32]) -> Outcome {
@@ -152,12 +157,11 @@ impl Layer for Lent {
         let [pe, pb, ps, pa] = arena.pointers();
         let (el, bl, sl, al) = (e.len(), b.len(), s.len(), answer.len());
         let done = unsafe { ffi::utasiro_reclaim(to_library(head), pe, el, pb, bl, ps, sl, pa, al) };
-        arena.check(&[]);
         arena.put_back(0, e);
         arena.put_back(1, b);
         arena.put_back(2, s);
         arena.put_back(3, answer);
-        outcome(done)
+        arena.outcome(done, &[])
     }
 
     fn report(&self, head: Head, words: &Words) -> Counts {
@@ -166,8 +170,8 @@ impl Layer for Lent {
         let [pe, pb, ps] = arena.pointers();
         let head = to_library(head);
         let counts = unsafe { ffi::utasiro_report(head, pe, e.len(), pb, b.len(), ps, s.len()) };
-        arena.check(&[(0, e), (1, b), (2, s)]);
         let ffi::Counts { refusal, free, live, stale, head } = counts;
+        let refusal = arena.refusal(refusal, &[(0, e), (1, b), (2, s)]);
         Counts { refusal, free, live, stale, head: from_library(head) }
     }
 }
@@ -201,12 +205,11 @@ impl Layer for OverRecords {
         let mut arena = Arena::new(&[e, b, s, answer]);
         let [pe, pb, ps, pa] = arena.pointers();
         let (el, bl, sl, al) = (e.len() / 3, b.len(), s.len(), answer.len());
-        let (head, pe) = (to_library(head), pe.cast_const().cast());
+        let (head, pe) = (to_library(head), pe.cast::<ffi::Extent>());
         // Safety: as of the calls above; a record is three words.
         let done = unsafe { ffi::utasiro_read_records(head, pe, el, pb, bl, ps, sl, start, count, pa, al) };
-        arena.check(&[(0, e), (1, b), (2, s)]);
         arena.put_back(3, answer);
-        outcome(done)
+        arena.outcome(done, &[(0, e), (1, b), (2, s)])
     }
 
     fn reclaim(&self, head: Head, words: &mut Words, answer: &mut [u32]) -> Outcome {
@@ -215,5 +218,24 @@ impl Layer for OverRecords {
 
     fn report(&self, head: Head, words: &Words) -> Counts {
         Lent.report(head, words)
+    }
+}
+
+#[cfg(test)]
+mod tests {
+    use super::{Arena, ONLY_READ_CHANGED, OUTSIDE_CHANGED};
+
+    #[test]
+    fn a_word_that_may_not_change_is_seen() {
+        let buffers = [&[1, 2, 3][..], &[][..], &[4][..]];
+        let only_read = [(0, buffers[0]), (2, buffers[2])];
+        assert_eq!(Arena::new(&buffers).refusal(0, &only_read), 0);
+        for index in 0..8 {
+            let mut arena = Arena::new(&buffers);
+            arena.words[index] ^= 1;
+            let outside = [0, 4, 5, 7].contains(&index);
+            let seen = if outside { OUTSIDE_CHANGED } else { ONLY_READ_CHANGED };
+            assert_eq!(arena.refusal(0, &only_read), seen, "word {index}");
+        }
     }
 }

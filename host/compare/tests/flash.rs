@@ -1,51 +1,30 @@
-//! A host over the library, with a simulated flash that does as answers list:
-//! every page reads as its last accepted write, no page is programmed twice between
-//! erases, pages of a block in order, and demand 3 runs to its bound. What is
-//! checked is in `plain::host`.
+//! A host over the library, with a simulated flash that does as answers list.
 
-use compare::{random, times, Lent};
-use plain::generate;
-use plain::host::history;
-use plain::requests::Request;
+use compare::checks::flash;
+use compare::Lent;
+use plain::shrink::Tried;
 
 #[test]
-fn small_devices() {
-    let mut random = random(31);
-    for _ in 0..times(250) {
-        let fresh = generate::sizes(&mut random, 8, 8);
-        history(Lent, &mut random, &[fresh], 200);
-    }
+fn small_devices() -> Tried {
+    flash::small_devices(Lent)
 }
 
 #[test]
-fn smallest_device() {
-    let mut random = random(32);
-    for _ in 0..times(50) {
-        let fresh = Request::Fresh { blocks: 3, pages: 1, logical: 1, slots: 1 };
-        history(Lent, &mut random, &[fresh], 100);
-    }
+fn smallest_device() -> Tried {
+    flash::smallest_device(Lent)
 }
 
 #[test]
-fn middling_devices() {
-    let mut random = random(33);
-    for (blocks, pages, logical, slots) in [(16, 64, 896, 100), (64, 16, 992, 992), (3, 256, 256, 16)] {
-        history(Lent, &mut random, &[Request::Fresh { blocks, pages, logical, slots }], times(100));
-    }
-}
-
-/// From a device that is all but full.
-#[test]
-fn full_device() {
-    let mut random = random(34);
-    let fresh = Request::Fresh { blocks: 64, pages: 128, logical: 7936, slots: 4096 };
-    let filled = generate::filled(&mut random, fresh);
-    history(Lent, &mut random, &filled, times(40));
+fn middling_devices() -> Tried {
+    flash::middling_devices(Lent)
 }
 
 #[test]
-fn largest_device() {
-    let mut random = random(35);
-    let fresh = Request::Fresh { blocks: 1024, pages: 256, logical: 261_632, slots: 8192 };
-    history(Lent, &mut random, &[fresh], times(15));
+fn full_device() -> Tried {
+    flash::full_device(Lent)
+}
+
+#[test]
+fn largest_device() -> Tried {
+    flash::largest_device(Lent)
 }

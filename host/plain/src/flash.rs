@@ -63,7 +63,7 @@ impl Flash {
         if self.contents[index].is_some() {
             return Err(Fault::ProgrammedTwice { page });
         }
-        let first_of_block = page.is_multiple_of(self.pages);
+        let first_of_block = page % self.pages == 0;
         if !first_of_block && self.contents[index - 1].is_none() {
             return Err(Fault::OutOfOrder { page });
         }
@@ -76,9 +76,11 @@ impl Flash {
         self.program(target, contents)
     }
 
-    pub fn erase(&mut self, block: u32) {
+    pub fn erase(&mut self, block: u32) -> Result<(), Fault> {
         let first = block as usize * self.pages as usize;
-        self.contents[first..first + self.pages as usize].fill(None);
+        let pages = self.contents.get_mut(first..first + self.pages as usize);
+        pages.ok_or(Fault::Outside { page: block.saturating_mul(self.pages) })?.fill(None);
+        Ok(())
     }
 
     /// Programs the triples of an accepted write, each logical page with its
@@ -86,7 +88,7 @@ impl Flash {
     pub fn write(&mut self, triples: &[u32], contents: impl Fn(u32) -> u64) -> Result<(), Fault> {
         for triple in triples.chunks_exact(3) {
             for k in 0..triple[2] {
-                self.program(triple[1] + k, contents(triple[0] + k))?;
+                self.program(triple[1].saturating_add(k), contents(triple[0].wrapping_add(k)))?;
             }
         }
         Ok(())
@@ -98,8 +100,7 @@ impl Flash {
         for (target, &source) in (old_reserve * self.pages..).zip(sources) {
             self.copy(source, target)?;
         }
-        self.erase(victim);
-        Ok(())
+        self.erase(victim)
     }
 
     /// What the pieces of an accepted read hold, one entry per logical page: a
@@ -118,7 +119,7 @@ impl Flash {
         if physical == HOLE {
             return Ok(None);
         }
-        let page = physical + k;
+        let page = physical.saturating_add(k);
         self.contents(page).map(Some).ok_or(Fault::ReadOfErased { page })
     }
 }
@@ -136,7 +137,8 @@ mod tests {
         assert_eq!(flash.program(0, 5), Err(Fault::ProgrammedTwice { page: 0 }));
         assert_eq!(flash.program(1, 6), Ok(()));
         assert_eq!(flash.program(6, 5), Err(Fault::Outside { page: 6 }));
-        flash.erase(0);
+        assert_eq!(flash.erase(3), Err(Fault::Outside { page: 6 }));
+        assert_eq!(flash.erase(0), Ok(()));
         assert_eq!(flash.program(0, 7), Ok(()));
         assert_eq!(flash.contents(1), None);
     }

@@ -86,8 +86,9 @@ pub fn call(random: &mut Random, head: Head) -> [Request; 2] {
 /// A history that all but fills a device from fresh: writes of whole blocks' worth
 /// of pages at random places.
 pub fn filled(random: &mut Random, fresh: Request) -> Vec<Request> {
-    let Request::Fresh { blocks, pages, logical, .. } = fresh else {
-        return vec![fresh];
+    let (blocks, pages, logical) = match fresh {
+        Request::Fresh { blocks, pages, logical, .. } => (blocks, pages, logical),
+        _ => return vec![fresh],
     };
     let count = pages.min(logical);
     let writes = (blocks - 2) * pages / count;
@@ -103,7 +104,7 @@ pub fn filled(random: &mut Random, fresh: Request) -> Vec<Request> {
 /// one of them the reserve. The sizes must be those of document 01.
 pub fn scattered(blocks: u32, pages: u32, logical: u32, slots: u32, extents: u32) -> (Head, Words) {
     let mut device = Device::fresh(blocks, pages, logical, slots);
-    let run = ((blocks - 2) * pages / (2 * extents)).clamp(1, pages.div_ceil(2));
+    let run = ((blocks - 2) * pages / (2 * extents)).clamp(1, (pages + 1) / 2);
     let mut left = extents.min(logical / run);
     for block in 0..blocks - 2 {
         let mut offset = 0;
@@ -117,6 +118,30 @@ pub fn scattered(blocks: u32, pages: u32, logical: u32, slots: u32, extents: u32
             labels.iter_mut().zip(left * run..).for_each(|(label, l)| *label = l.min(logical - 1));
             offset += 2 * run;
         }
+    }
+    words_of(&device)
+}
+
+/// A sound state whose blocks are filled to every height, the first and the last to the
+/// top, with the reserve in the middle. So many extents, if so many pages are
+/// programmed, are single pages spread over these; all others are stale. The sizes must
+/// be those of document 01.
+pub fn uneven(blocks: u32, pages: u32, logical: u32, slots: u32, extents: u32) -> (Head, Words) {
+    let mut device = Device::fresh(blocks, pages, logical, slots);
+    device.reserve = blocks / 2;
+    let mut programmed = Vec::new();
+    for block in (0..blocks).filter(|&block| block != blocks / 2) {
+        let full = block == 0 || block == blocks - 1;
+        let fill = if full { pages } else { block % (pages + 1) };
+        device.fills[block as usize] = fill;
+        programmed.extend(block * pages..block * pages + fill);
+    }
+    programmed.iter().for_each(|&page| device.spare[page as usize] = 0);
+    // The logical pages fall where the physical ones rise: no two extents are joinable.
+    let live = programmed.iter().step_by((programmed.len() / extents as usize).max(1));
+    for (l, &page) in (0..logical).rev().zip(live).take(extents as usize) {
+        device.table[l as usize] = page;
+        device.spare[page as usize] = l;
     }
     words_of(&device)
 }

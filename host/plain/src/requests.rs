@@ -3,6 +3,7 @@
 
 use std::fmt;
 
+use crate::device::Device;
 use crate::{Head, Layer, Outcome, Refusal, Words};
 
 /// The most of B x N that is held: that of the largest device.
@@ -12,6 +13,11 @@ pub const MOST_SLOTS: u32 = 8192;
 /// As much room as any answer needs: a read of all slots with a hole before
 /// each and after the last.
 pub const MOST_ROOM: u32 = 3 * (2 * MOST_SLOTS + 1);
+
+/// Whether a device of these sizes is held.
+pub fn holds(blocks: u32, pages: u32, slots: u32) -> bool {
+    u64::from(blocks) * u64::from(pages) <= u64::from(MOST_PAGES) && slots <= MOST_SLOTS
+}
 
 /// A line of a request list.
 #[derive(Clone, Copy, Debug, PartialEq, Eq)]
@@ -124,6 +130,15 @@ impl Buffer {
             Buffer::Spare => &mut words.spare,
         }
     }
+
+    /// The words of the buffer.
+    pub fn words_of(self, words: &Words) -> &[u32] {
+        match self {
+            Buffer::Extents => &words.extents,
+            Buffer::Blocks => &words.blocks,
+            Buffer::Spare => &words.spare,
+        }
+    }
 }
 
 impl Field {
@@ -152,6 +167,18 @@ impl Field {
         match self {
             Field::Last => u64::MAX,
             _ => u64::from(u32::MAX),
+        }
+    }
+
+    pub fn of(self, head: Head) -> u64 {
+        match self {
+            Field::Blocks => u64::from(head.blocks),
+            Field::Pages => u64::from(head.pages),
+            Field::Logical => u64::from(head.logical),
+            Field::Slots => u64::from(head.slots),
+            Field::Used => u64::from(head.used),
+            Field::Reserve => u64::from(head.reserve),
+            Field::Last => head.last,
         }
     }
 
@@ -286,7 +313,7 @@ impl<L: Layer> Replay<L> {
     /// the lengths, leaves B without a bound: then no more blocks are lent than
     /// are held.
     fn fresh(&mut self, blocks: u32, pages: u32, logical: u32, slots: u32) -> Result<String, Wrong> {
-        if u64::from(blocks) * u64::from(pages) > u64::from(MOST_PAGES) || slots > MOST_SLOTS {
+        if !holds(blocks, pages, slots) {
             return Err(Wrong::SizesBeyond);
         }
         let mut words = Words::of_sizes(blocks.min(MOST_PAGES), pages, slots);
@@ -329,7 +356,7 @@ impl<L: Layer> Replay<L> {
         if outcome.refusal != 0 {
             return refused(outcome.refusal);
         }
-        let sources = &buffer[..outcome.count as usize];
+        let sources = given(&buffer, outcome.count as usize);
         format!("{} erase {}", ok(&[&[outcome.count], sources]), outcome.head.reserve)
     }
 
@@ -398,7 +425,29 @@ fn pieces(outcome: Outcome, buffer: &[u32]) -> String {
     if outcome.refusal != 0 {
         return refused(outcome.refusal);
     }
-    ok(&[&[outcome.count], &buffer[..3 * outcome.count as usize]])
+    ok(&[&[outcome.count], given(buffer, 3 * outcome.count as usize)])
+}
+
+/// The words of an answer. A layer may claim more than there is room for.
+fn given(buffer: &[u32], words: usize) -> &[u32] {
+    &buffer[..words.min(buffer.len())]
+}
+
+/// The requests that lead from nothing to what is lent: a fresh, and what is otherwise
+/// after it. The sizes must be those of document 01 and the lengths those that they
+/// ask for.
+pub fn to_reach(head: Head, words: &Words) -> Vec<Request> {
+    let Head { blocks, pages, logical, slots, .. } = head;
+    let (fresh, fresh_words) = crate::words_of(&Device::fresh(blocks, pages, logical, slots));
+    let mut requests = vec![Request::Fresh { blocks, pages, logical, slots }];
+    for buffer in Buffer::ALL {
+        let pairs = buffer.words_of(words).iter().zip(buffer.words_of(&fresh_words));
+        let others = (0..).zip(pairs).filter(|(_, (value, fresh))| value != fresh);
+        requests.extend(others.map(|(index, (&value, _))| Request::Poke { buffer, index, value }));
+    }
+    let others = Field::ALL.into_iter().filter(|field| field.of(head) != field.of(fresh));
+    requests.extend(others.map(|field| Request::Head { field, value: field.of(head) }));
+    requests
 }
 
 /// The lines that answer a request list.
