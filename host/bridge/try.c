@@ -109,7 +109,7 @@ static void calls(void) {
         expect((fcntl(file, F_GETFD) != -1) == is_open[file], "the standard streams are as they were");
 }
 
-/* Ends with 0 in the child, and says how it ended in the parent. */
+/* The child ends, and with 0. */
 static void is_right(pid_t child) {
     int status;
     pid_t ended;
