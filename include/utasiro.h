@@ -1,8 +1,9 @@
 /*
  * Utasiro: a flash translation layer. It keeps which physical page holds each
  * logical page, touches no page contents, and lists what the host must program,
- * copy and erase. What this page says of the calls is proved of the library; what
- * it asks of the caller and of the host is not, and cannot be.
+ * copy and erase. What each call answers and leaves, as this page says it, is proved of
+ * the library. Its costs are measured. What is asked of the caller and of the host is
+ * theirs to keep.
  *
  * Linking
  *   libutasiro.a, which `rt staticlib utasiro` writes to target/staticlib, for x86-64
