@@ -106,7 +106,8 @@ pub extern "C" fn utasiro_fresh(
     blk: &mut [u32],
     spare: &mut [u32],
 ) -> Outcome
-    ensures { λ r. ⌜ (outcome (ofDone r) (now (ext .exit)) (now (blk .exit)) (now (spare .exit)) [] ≡ fresh blocks pages logical slots (now (ext .entry)) (now (blk .entry)) (now (spare .entry))) × (r .count ≡ 0) ⌝ }
+    ensures { λ r. ⌜ (outcome (ofDone r) (now (ext .exit)) (now (blk .exit)) (now (spare .exit)) []
+        ≡ fresh blocks pages logical slots (now (ext .entry)) (now (blk .entry)) (now (spare .entry))) × (r .count ≡ 0) ⌝ }
 {
     of_done(layer::fresh(blocks, pages, logical, slots, ext, blk, spare))
 }
@@ -122,7 +123,8 @@ pub extern "C" fn utasiro_write(
     n: u32,
     out: &mut [u32],
 ) -> Outcome
-    ensures { λ r. ⌜ outcome (ofListed r) (now (ext .exit)) (now (blk .exit)) (now (spare .exit)) (now (out .exit)) ≡ call (Call.write number l n (now (out .entry))) (lent h (now (ext .entry)) (now (blk .entry)) (now (spare .entry))) ⌝ }
+    ensures { λ r. ⌜ outcome (ofListed r) (now (ext .exit)) (now (blk .exit)) (now (spare .exit)) (now (out .exit))
+        ≡ call (Call.write number l n (now (out .entry))) (lent h (now (ext .entry)) (now (blk .entry)) (now (spare .entry))) ⌝ }
 {
     of_listed(layer::write(h, ext, blk, spare, number, l, n, out))
 }
@@ -137,7 +139,8 @@ pub extern "C" fn utasiro_trim(
     l: u32,
     n: u32,
 ) -> Outcome
-    ensures { λ r. ⌜ (outcome (ofDone r) (now (ext .exit)) (now (blk .exit)) (now (spare .entry)) [] ≡ call (Call.trim number l n) (lent h (now (ext .entry)) (now (blk .entry)) (now (spare .entry)))) × (r .count ≡ 0) ⌝ }
+    ensures { λ r. ⌜ (outcome (ofDone r) (now (ext .exit)) (now (blk .exit)) (now (spare .entry)) []
+        ≡ call (Call.trim number l n) (lent h (now (ext .entry)) (now (blk .entry)) (now (spare .entry)))) × (r .count ≡ 0) ⌝ }
 {
     of_done(layer::trim(h, ext, blk, spare, number, l, n))
 }
@@ -152,7 +155,8 @@ pub extern "C" fn utasiro_read(
     n: u32,
     out: &mut [u32],
 ) -> Outcome
-    ensures { λ r. ⌜ outcome (ofListed r) (now (ext .entry)) (now (blk .entry)) (now (spare .entry)) (now (out .exit)) ≡ call (Call.read l n (now (out .entry))) (lent h (now (ext .entry)) (now (blk .entry)) (now (spare .entry))) ⌝ }
+    ensures { λ r. ⌜ outcome (ofListed r) (now (ext .entry)) (now (blk .entry)) (now (spare .entry)) (now (out .exit))
+        ≡ call (Call.read l n (now (out .entry))) (lent h (now (ext .entry)) (now (blk .entry)) (now (spare .entry))) ⌝ }
 {
     of_listed(layer::read(h, ext, blk, spare, l, n, out))
 }
@@ -181,14 +185,16 @@ pub extern "C" fn utasiro_reclaim(
     spare: &mut [u32],
     out: &mut [u32],
 ) -> Outcome
-    ensures { λ r. ⌜ outcome (ofListed r) (now (ext .exit)) (now (blk .exit)) (now (spare .exit)) (now (out .exit)) ≡ call (Call.reclaim (now (out .entry))) (lent h (now (ext .entry)) (now (blk .entry)) (now (spare .entry))) ⌝ }
+    ensures { λ r. ⌜ outcome (ofListed r) (now (ext .exit)) (now (blk .exit)) (now (spare .exit)) (now (out .exit))
+        ≡ call (Call.reclaim (now (out .entry))) (lent h (now (ext .entry)) (now (blk .entry)) (now (spare .entry))) ⌝ }
 {
     of_listed(layer::reclaim(h, ext, blk, spare, out))
 }
 
 #[no_mangle]
 pub extern "C" fn utasiro_report(h: Head, ext: &[u32], blk: &[u32], spare: &[u32]) -> Counts
-    ensures { λ r. ⌜ outcome (ofCounts r) (now (ext .entry)) (now (blk .entry)) (now (spare .entry)) [] ≡ call Call.report (lent h (now (ext .entry)) (now (blk .entry)) (now (spare .entry))) ⌝ }
+    ensures { λ r. ⌜ outcome (ofCounts r) (now (ext .entry)) (now (blk .entry)) (now (spare .entry)) []
+        ≡ call Call.report (lent h (now (ext .entry)) (now (blk .entry)) (now (spare .entry))) ⌝ }
 {
     of_counted(layer::report(h, ext, blk, spare))
 }
