@@ -63,7 +63,10 @@ static void reclaim(void) {
     erase(now.head.reserve);
 }
 
-/* Programs, saves; the caller acknowledges. Where pages are wanting, reclaims first. */
+/*
+ * Programs, saves; the caller acknowledges. Where pages are wanting, reclaims first: after at most B-1 reclaims the write fits, since
+ * there is a slot for every logical page (M = L). With fewer slots it may then be refused 6. Each call reads the whole state.
+ */
 static uint32_t write_pages(uint64_t number, uint32_t start, uint32_t count, int contents) {
     utasiro_outcome done;
     while ((done = utasiro_write(now.head, STATE, number, start, count, ANSWER)).refusal == UTASIRO_NO_PAGES)
@@ -136,7 +139,8 @@ int main(void) {
     utasiro_extent records[M];
     for (uint32_t k = 0; k < M; k++)
         records[k] = (utasiro_extent){now.extents[3 * k], now.extents[3 * k + 1], now.extents[3 * k + 2]};
-    done = utasiro_read_records(now.head, records, M, now.blocks, UTASIRO_BLOCK_WORDS(B), now.spare, UTASIRO_SPARE_WORDS(B, N), 4, 2, ANSWER);
+    done = utasiro_read_records(now.head, records, M, now.blocks, UTASIRO_BLOCK_WORDS(B), now.spare, UTASIRO_SPARE_WORDS(B, N), 4, 2,
+                                ANSWER);
     printf("over records, pages %u to %u are at page %u\n", answer[0], answer[0] + answer[2] - 1, answer[1]);
     utasiro_counts counts = utasiro_report(now.head, STATE);
     printf("free %u, live %u, stale %u\n", counts.free, counts.live, counts.stale);

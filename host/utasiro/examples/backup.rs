@@ -13,6 +13,8 @@ fn say(what: &str, answer: &Answer) {
 }
 
 fn main() -> Answer {
+    // A slot for every logical page: then a write in range with a new number fits after at most B-1 reclaims. With fewer
+    // slots it may be refused 6. Each call reads the whole state, so slots that are never used cost time as well as room.
     let sizes = Sizes { blocks: 4, pages: 4, logical: 8, slots: 8 };
     let mut board = SimulatedBoard::new(sizes.blocks, sizes.pages);
     let mut store = Store::fresh(&mut board, sizes)?;

@@ -16,6 +16,23 @@
 //!
 //! [`read_records`] and [`read_records_into`] are for a host that keeps its extents as records.
 //!
+//! # When the device is full
+//!
+//! A write that is refused [`NoPages`](Refusal::NoPages) fits after some reclaims: reclaim, do as it lists, and write
+//! again, as [`Store::write_making_room`] does. It takes at most B-1 reclaims, each accepted, and then the write is
+//! accepted, where it is in range and its number is new, and the extents in use plus its pages plus 1 are at most M or
+//! M is at least L. With fewer slots it may be refused [`NoNodes`](Refusal::NoNodes), and reclaiming does not help. So M
+//! is L where that is at most 8,192, and otherwise as many runs as the map may break into: a write of n pages adds at
+//! most n + 1 extents, a trim at most 1.
+//!
+//! # What a call costs
+//!
+//! Every call but fresh tests the whole state, so it reads every word of it: 3M + 2B + B x N. On the largest device the
+//! calls took 1.2 to 1.5 times as long as one sum over these words with few extents in use and, with 8,192, 3.8 to 5.3
+//! times, a reclaim 10 times. The stack that it takes is below 8 KB.
+//!
+//! # A request sent again
+//!
 //! Every write and trim has a number. A request that is sent again is refused:
 //!
 //! ```
