@@ -110,7 +110,10 @@ pub utasiro-read-records-spec : {M : Type 1} → stated.statement M
 unfolding code.routine tablesOf
 utasiro-read-records-spec 𝓤 H 𝓜 𝓖 𝓡 =
     let 𝓣 = tables 𝓤 H 𝓜 𝓡 code.env in
-    entered 𝓤 H (tripleOf 𝓤 H (𝓖 .A) top.signature (top.spec 𝓤 H (𝓖 .A) (𝓜 .mem) (𝓡 .run))) (𝓣 .C) (𝓣 .Λ) #utasiro·utasiro-read-records code.function (code.unfolded 𝓤 H 𝓜 𝓡)
+    let spec = top.spec 𝓤 H (𝓖 .A) (𝓜 .mem) (𝓡 .run) in
+    let read = Read 𝓤 H (𝓖 .A) (𝓜 .mem) (𝓡 .run) in
+    let listed = OfListed 𝓤 H (𝓖 .A) (𝓜 .mem) (𝓡 .run) in
+    entered 𝓤 H (tripleOf 𝓤 H (𝓖 .A) top.signature spec) (𝓣 .C) (𝓣 .Λ) #utasiro·utasiro-read-records code.function (code.unfolded 𝓤 H 𝓜 𝓡)
     (top-meets 𝓤 H (𝓖 .A) (givenOf 𝓤 H 𝓜 𝓖) (𝓜 .mem) (𝓡 .run) (tablesOf 𝓤 H 𝓜 𝓣)
-    (cited 𝓤 H (Read 𝓤 H (𝓖 .A) (𝓜 .mem) (𝓡 .run)) 𝓜 𝓡 code.env #records·read-records read-def.routine code.calls-records·read-records (read-thm.met 𝓤 H 𝓜 𝓖 𝓡))
-    (cited 𝓤 H (OfListed 𝓤 H (𝓖 .A) (𝓜 .mem) (𝓡 .run)) 𝓜 𝓡 code.env #utasiro·of-listed of-listed-def.routine code.calls-utasiro·of-listed (of-listed-thm.met 𝓤 H 𝓜 𝓖 𝓡)))
+    (cited 𝓤 H read 𝓜 𝓡 code.env #records·read-records read-def.routine code.calls-records·read-records (read-thm.met 𝓤 H 𝓜 𝓖 𝓡))
+    (cited 𝓤 H listed 𝓜 𝓡 code.env #utasiro·of-listed of-listed-def.routine code.calls-utasiro·of-listed (of-listed-thm.met 𝓤 H 𝓜 𝓖 𝓡)))
