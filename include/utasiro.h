@@ -128,7 +128,7 @@ enum utasiro_refusal {
     UTASIRO_RANGE = 3,         /* Range: count is 0, start + count > L as whole numbers, or a write with count > N. Write, trim, read. */
     UTASIRO_APPLIED = 4,       /* Applied: the number is not above the last accepted one. Write, trim. */
     UTASIRO_NO_PAGES = 5,      /* NoPages: count > free. Write. */
-    UTASIRO_NO_NODES = 6,      /* NoNodes: the map afterwards, joined, has more than M extents. Write, trim, reclaim. */
+    UTASIRO_NO_NODES = 6,      /* NoNodes: the map afterwards, joined, has more than M extents. Write, trim. */
     UTASIRO_OUT_SHORT = 7,     /* OutShort: the answer buffer is shorter than the answer. Write, read, reclaim. */
     UTASIRO_NOTHING_STALE = 8  /* NothingStale: no page is stale. Reclaim. */
 };
@@ -263,7 +263,7 @@ utasiro_outcome utasiro_read_records(utasiro_head head, const utasiro_extent *ex
  * Reclaims the block with most stale pages, the lowest-numbered on a tie (the victim).
  * Lent: the state, and an answer buffer of one word a copied page; UTASIRO_RECLAIM_WORDS(N) suffice.
  * Comes back: count source pages in answer; the new head's reserve is the victim.
- * Refusals: 1 Shape, 2 Damaged, 8 NothingStale, 6 NoNodes, 7 OutShort.
+ * Refusals: 1 Shape, 2 Damaged, 8 NothingStale, 7 OutShort. It needs no slot more than are in use.
  * Then: the host copies the source pages in order to the pages of the old reserve (the
  * reserve of the head that went in) from its first on, saves the state, and only then erases
  * the victim.

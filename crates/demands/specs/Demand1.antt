@@ -2,7 +2,7 @@
 -- slots, answer room or stale pages are refused by number, exactly when the rules say, and a refusal changes nothing lent.
 -- This is the statement; `demand-1` (Proved) proves it.
 use Prim.Native.Nat.{ℕ, _+_, _-_, _*_}
-use mathlib.Core.Bool.{Bool, true, false, not, cond, _&&_, _||_}
+use mathlib.Core.Bool.{Bool, not, cond, _&&_, _||_}
 use mathlib.Core.Path.{_≡_}
 use mathlib.Core.List.{List, [], _∷_, map}
 use lib.Dec.{eqb, ltb, leb}
@@ -18,7 +18,7 @@ use Rattle.rules.specs.Calls.{Call, leaves, lists, buffer, acceptedOn, call, fr
 use Rattle.rules.specs.declared.Refusal.{Refusal}
 use Rattle.demands.specs.Requests.{isWrite, numberOf, startOf, countOf}
 
--- ---- 01, Refusals: the table
+-- ---- 01, Refusals: the table, from whose row 6 document 02 strikes reclaim (T-12)
 
 abbrev pub refusals : List Refusal
 refusals =
@@ -29,7 +29,7 @@ abbrev pub order : Call → List Refusal
 order (Call.write k l n out) = Refusal.Shape ∷ Refusal.Damaged ∷ Refusal.Range ∷ Refusal.Applied ∷ Refusal.NoPages ∷ Refusal.NoNodes ∷ Refusal.OutShort ∷ []
 order (Call.trim k l n) = Refusal.Shape ∷ Refusal.Damaged ∷ Refusal.Range ∷ Refusal.Applied ∷ Refusal.NoNodes ∷ []
 order (Call.read l n out) = Refusal.Shape ∷ Refusal.Damaged ∷ Refusal.Range ∷ Refusal.OutShort ∷ []
-order (Call.reclaim out) = Refusal.Shape ∷ Refusal.Damaged ∷ Refusal.NothingStale ∷ Refusal.NoNodes ∷ Refusal.OutShort ∷ []
+order (Call.reclaim out) = Refusal.Shape ∷ Refusal.Damaged ∷ Refusal.NothingStale ∷ Refusal.OutShort ∷ []
 order Call.report = Refusal.Shape ∷ Refusal.Damaged ∷ []
 
 -- its column "given when", of a call c on a lent state s

@@ -5,6 +5,7 @@ pub mod Demand1
 pub mod Demand2
 pub mod Demand3
 pub mod Once
+pub mod Struck
 pub mod Settle
 pub mod Shows
 pub mod Listed
@@ -13,6 +14,7 @@ pub mod Reads
 pub mod Worlds
 pub mod Starts
 pub mod Refusals
+pub mod Shrinks
 pub mod Steps
 pub mod Traces
 pub mod Histories

@@ -1,9 +1,8 @@
--- The demands and the double refund as theorems. Each statement is a record of the file that has its name; the proofs are in the files below.
+-- The demands, the double refund and T-12 as theorems. Each statement is a record of the file that has its name; the proofs are in the files below.
 use Prim.Native.Nat.{ℕ, _*_, _-_, _≤_}
 use mathlib.Core.Bool.{true}
 use mathlib.Core.Path.{_≡_, refl, sym, subst}
 use mathlib.Core.List.{List}
-use native.Mathlib.Omega.{arith}
 use lib.ListN.{length}
 use Rattle.rules.specs.Lent.{Lent}
 use Rattle.rules.specs.Shape.{shaped}
@@ -12,16 +11,18 @@ use Rattle.rules.specs.Device.{Device, deviceOf, wordsOf}
 use Rattle.rules.specs.Calls.{Call, call, freshDevice, fresh}
 use Rattle.laws.specs.States.{words-device}
 use Rattle.demands.specs.Flash.{Cell}
-use Rattle.demands.specs.Host.{Ask, World, run, ErasedFromFill, begin}
+use Rattle.demands.specs.Host.{Ask, run, ErasedFromFill, begin}
 use Rattle.demands.specs.Demand1.{Demand1}
 use Rattle.demands.specs.Demand2.{Demand2, beginFresh}
 use Rattle.demands.specs.Demand3.{Asked, until, Settles, Demand3}
 use Rattle.demands.specs.Once.{AppliedOnce}
+use Rattle.demands.specs.Struck.{SixStruck}
 use Rattle.demands.specs.Refusals.{answers, reports, fresh-answers}
 use Rattle.demands.specs.Starts.{begin-holds, fresh-good, fresh-holds, fresh-leaves}
 use Rattle.demands.specs.Histories.{holds-demand}
 use Rattle.demands.specs.Settling.{settles, wide-enough, write-enough}
 use Rattle.demands.specs.Repeats.{begins-once}
+use Rattle.demands.specs.Shrinks.{struck}
 
 -- every request on every lent state
 pub demand-1 : Demand1
@@ -58,3 +59,7 @@ demand-3-sizes s z e f k l n out outs limit a h r m =
 -- from any sound state, on any flash, after any requests
 pub applied-once : (s : Lent) → shaped s ≡ true → sound s ≡ true → (f : List Cell) (before : List Ask) → AppliedOnce (run before (begin s f))
 applied-once = begins-once
+
+-- every reclaim on every lent state: the 6 that document 02 strikes from its refusals was never given
+pub six-struck : (out : List ℕ) (s : Lent) → SixStruck out s
+six-struck = struck

@@ -1,8 +1,8 @@
 -- Demand 1, proved: the refusals of a call are those of the paper's table in the paper's order, and a refused call leaves everything.
 use Prim.Native.Nat.{ℕ, _+_, _*_}
-use mathlib.Core.Bool.{Bool, true, false, not, cond, _&&_, _||_}
+use mathlib.Core.Bool.{Bool, true, false, cond, _&&_, _||_}
 use mathlib.Core.Path.{_≡_, refl, sym, ap, ap₂, _∙_}
-use mathlib.Core.List.{List, [], _∷_, _++_}
+use mathlib.Core.List.{List, [], _∷_}
 use native.Mathlib.Omega.{arith}
 use borrow.Author.Tests.{eq-eqb}
 use lib.Dec.{eqb, ltb, leb}
@@ -11,11 +11,9 @@ use lib.Seq.{drop-append-seam}
 use Rattle.rules.specs.Extents.{flat}
 use Rattle.rules.specs.declared.Extent.{Extent}
 use Rattle.rules.specs.Lent.{Lent, lent}
-use Rattle.rules.specs.Shape.{sizes, lengths, shaped}
-use Rattle.rules.specs.Sound.{sound}
-use Rattle.rules.specs.Device.{Device, lines, free, live, stale, extents, deviceOf, wordsOf}
+use Rattle.rules.specs.Shape.{sizes, lengths}
+use Rattle.rules.specs.Device.{Device, free, live, stale, extents, deviceOf, wordsOf}
 use Rattle.rules.specs.Placement.{targets, puts, pieces}
-use Rattle.rules.specs.Reclaim.{victim, sources, reclaimedAt, reclaimed}
 use Rattle.rules.specs.Read.{found}
 use Rattle.rules.specs.Request.{applied, judged, withTable, numbered, written, trimmed}
 use Rattle.rules.specs.Answers.{Outcome, number, refuse}
@@ -73,15 +71,11 @@ module _ (s : Lent) where
   unfolding tooMany trimmed withTable deviceOf
   many-trim k l n = refl
 
-  many-reclaim : tooMany (reclaimed d) ≡ ltb (s .head .slots) (length (extents (reclaimed d)))
-  unfolding tooMany reclaimed reclaimedAt deviceOf
-  many-reclaim = refl
-
   -- 7: three words a piece
   short : (out : List ℕ) (es : List Extent) → ltb (length out) (3 * length es) ≡ ltb (length out) (length (flat es))
   short out es = ap (ltb (length out)) (sym (flat-length es))
 
-  first : (c : Call) → verdict c s ≡ firstGiven (order c) (given c s)
+  pub first : (c : Call) → verdict c s ≡ firstGiven (order c) (given c s)
   unfolding verdict refusal writeRefusal trimRefusal readRefusal reclaimRefusal firstGiven leaves lists
   first (Call.write k l n out) =
       row Refusal.Shape refl (row Refusal.Damaged refl (row Refusal.Range (ranged-write l n) (number-row k
@@ -91,7 +85,7 @@ module _ (s : Lent) where
   first (Call.read l n out) =
       row Refusal.Shape refl (row Refusal.Damaged refl (row Refusal.Range (ranged l n) (row Refusal.OutShort (short out (found l n d)) refl)))
   first (Call.reclaim out) =
-      row Refusal.Shape refl (row Refusal.Damaged refl (row Refusal.NothingStale refl (row Refusal.NoNodes many-reclaim (row Refusal.OutShort refl refl))))
+      row Refusal.Shape refl (row Refusal.Damaged refl (row Refusal.NothingStale refl (row Refusal.OutShort refl refl)))
   first Call.report = row Refusal.Shape refl (row Refusal.Damaged refl refl)
 
 -- ---- a call

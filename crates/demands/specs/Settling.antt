@@ -17,7 +17,6 @@ use Rattle.rules.specs.Placement.{targets, puts, places, pieces}
 use Rattle.rules.specs.Reclaim.{victim, reclaimed}
 use Rattle.rules.specs.Answers.{Outcome}
 use Rattle.rules.specs.Calls.{Call, refusal, counts, leaves, lists, buffer, accepted, encoded, call}
-use Rattle.rules.specs.declared.Head.{Head}
 use Rattle.laws.specs.Placed.{puts-slots, length-placed}
 use Rattle.laws.specs.Reclaimed.{staleBlocks, few-sources, victim-chosen, reclaim-all}
 use Rattle.demands.specs.Settle.{settle, settle-done, settle-more, Settled, settle-ends, stale-blocks-lt, never-stuck}
@@ -27,10 +26,10 @@ use Rattle.laws.specs.States.{words-device, good-shaped, good-sound}
 use Rattle.laws.specs.Slots.{flat-length}
 use Rattle.laws.specs.Runs.{runs-length}
 use Rattle.laws.specs.Encoded.{reclaim-shrinks}
-use Rattle.laws.specs.Kept.{WriteTaken, passes, keeps, reclaim-passes, device-good, device-is}
+use Rattle.laws.specs.Kept.{WriteTaken, passes, keeps, device-good, device-is}
 use Rattle.laws.specs.Growth.{write-bound, write-lines}
 use Rattle.demands.specs.Host.{shown, World, step, begin}
-use Rattle.demands.specs.Demand3.{Asked, LongEnough, staleOf, reclaiming, later, until, times, Way, Roomy, Gains, Spares, Settles, Demand3}
+use Rattle.demands.specs.Demand3.{Asked, LongEnough, staleOf, reclaiming, later, until, times, Way, Roomy, Gains, Spares, Demand3}
 use Rattle.demands.specs.Worlds.{Holds, call-taken, step-holds, holds-reads}
 use Rattle.demands.specs.Starts.{begin-holds}
 
@@ -47,7 +46,7 @@ enough c d g r = subst (λ (x : Device). length (lists c x) ≤ length (buffer c
 module _ (out : List ℕ) (d : Device) (g : Good d) (h : stale d ≡ 0 → ⊥) (r : LongEnough (Call.reclaim out) (wordsOf d)) where
   taken-reclaim : refusal (Call.reclaim out) d ≡ 0
   unfolding lists
-  taken-reclaim = passes (Call.reclaim out) d (reclaim-passes out d g (omega arith) (enough (Call.reclaim out) d g r))
+  taken-reclaim = passes (Call.reclaim out) d (record { gains = omega arith; room = enough (Call.reclaim out) d g r })
 
   good-reclaim : Good (reclaimed d)
   unfolding leaves

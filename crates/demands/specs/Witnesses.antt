@@ -1,18 +1,17 @@
 -- The hypotheses of the theorems can be met, and what they speak of happens: by computing, on the device of P3 and on the smallest one.
-use Prim.Native.Nat.{ℕ, _+_, _-_, _*_, _^_, _≤_, _<_}
-use mathlib.Core.Bool.{Bool, true, false}
+use Prim.Native.Nat.{ℕ, _+_, _-_, _*_, _^_, _≤_}
+use mathlib.Core.Bool.{true, false}
 use mathlib.Core.Path.{_≡_, refl}
 use mathlib.Core.List.{List, [], _∷_, _++_}
 use mathlib.Core.Logic.{inl}
 use native.Mathlib.Omega.{arith}
-use lib.ListN.{length, getD, take, drop, replicate}
+use lib.ListN.{take, drop, replicate}
 use Rattle.rules.specs.Blocks.{stride}
 use Rattle.rules.specs.Lent.{Lent, lent}
 use Rattle.rules.specs.Shape.{shaped}
 use Rattle.rules.specs.Sound.{sound}
 use Rattle.rules.specs.Calls.{Call, call, sizesOnly, fresh}
 use Rattle.rules.specs.Opened.{opened}
-use Rattle.rules.specs.declared.Head.{Head}
 use Rattle.rules.specs.declared.Refusal.{Refusal}
 use Rattle.laws.specs.Cells.{replicate-at}
 use Rattle.demands.specs.Flash.{Cell, erased, see}
@@ -73,6 +72,11 @@ refusals =
 abbrev worn : Lent
 worn = lent (record { blocks = 3; pages = 1; logical = 1; slots = 1; used = 0; reserve = 2; last = 2 ^ 64 - 1 }) (small .extentWords) (small .blockWords) (small .spare)
 
+-- one extent in the only slot, over a block's edge, and a stale page
+abbrev over-the-edge : Lent
+over-the-edge =
+    lent (record { blocks = 4; pages = 2; logical = 2; slots = 1; used = 1; reserve = 3; last = 1 }) (0 ∷ 1 ∷ 2 ∷ []) (replicate (stride * 4) 1) (replicate 8 0)
+
 pub record Met : Type 0 where
   -- demand 1: each refusal is given somewhere, and a call is accepted
   pub each-given : refusals ≡ 1 ∷ 2 ∷ 3 ∷ 4 ∷ 5 ∷ 6 ∷ 7 ∷ 8 ∷ 0 ∷ []
@@ -95,6 +99,10 @@ pub record Met : Type 0 where
   pub carried : carries (Call.write 7 9 1 (replicate 48 0)) ≡ true
   pub largest : (shaped worn ≡ true) × (sound worn ≡ true) × (worn .head .last ≡ 2 ^ 64 - 1) × (given (Call.write 7 0 1 []) worn Refusal.Range ≡ false)
   pub repeated : once [] (drop 6 p3 ++ p4) (run (take 6 p3) (started 4 16 32 16)) ≡ write 7 9 1 [] ∷ reclaim ∷ write 8 0 1 [] ∷ []
+  -- T-12: something is stale in the sound state; in a damaged one 6 would apply, were it not for the 2 before it
+  pub some-stale : given (Call.reclaim []) sound3 Refusal.NothingStale ≡ false
+  pub six-if-damaged : (shaped over-the-edge ≡ true) × (sound over-the-edge ≡ false)
+      × (given (Call.reclaim []) over-the-edge Refusal.NothingStale ≡ false) × (given (Call.reclaim []) over-the-edge Refusal.NoNodes ≡ true)
 
 pub met : Met
 unfolding opened
@@ -116,4 +124,6 @@ met = record {
   carried = refl;
   largest = (refl, refl, refl, refl);
   repeated = refl;
+  some-stale = refl;
+  six-if-damaged = (refl, refl, refl, refl);
 }

@@ -1,12 +1,12 @@
 -- What a reclaim that nothing refuses asks of the words, lists and leaves.
-use Prim.Native.Nat.{ℕ, _+_, _*_, _≤_, _<_}
+use Prim.Native.Nat.{ℕ, _+_, _*_, _%_, _≤_, _<_}
 use mathlib.Core.Path.{_≡_, refl, sym, ap, _∙_}
 use mathlib.Core.List.{List, [], _∷_}
 use native.Mathlib.Omega.{arith}
 use lib.ListN.{length, getD, take}
-use Rattle.rules.specs.Counting.{count, most}
-use Rattle.rules.specs.Extents.{none}
-use Rattle.rules.specs.Blocks.{stride, fillWord, validWord, records}
+use Rattle.rules.specs.Counting.{count}
+use Rattle.rules.specs.Extents.{none, slot}
+use Rattle.rules.specs.Blocks.{stride, records}
 use Rattle.rules.specs.Lent.{Lent, lent, inUse}
 use Rattle.rules.specs.Device.{blocks, valid, extents, deviceOf, headOf, wordsOf}
 use Rattle.rules.specs.Reclaim.{victim, sources, reclaimedAt, reclaimed}
@@ -14,12 +14,13 @@ use Rattle.rules.specs.Answers.{said, outcome}
 use Rattle.rules.specs.Calls.{Call, counts, leaves, lists, over, call}
 use Rattle.rules.specs.declared.Head.{Head}
 use Rattle.rules.specs.declared.Extent.{Extent}
-use Rattle.laws.specs.Cells.{swept}
+use Rattle.laws.specs.Cells.{swept, block-le}
 use Rattle.laws.specs.Device.{Sound}
-use Rattle.laws.specs.Shapes.{lines-pages, pages-high}
+use Rattle.laws.specs.Shapes.{lines-pages, pages-high, pages-fit}
+use Rattle.laws.specs.Slots.{slots-length}
 use Rattle.laws.specs.States.{device-blocks, device-lines, device-words, extents-in-use, sane-good}
 use Rattle.laws.specs.Reclaimed.{Chosen, victim-chosen, re-blocks, re-lines}
-use Rattle.choosing.specs.Stale.{staleWord}
+use Rattle.laws.specs.Encoded.{reclaim-shrinks}
 use Rattle.choosing.specs.Covered.{covered}
 use Rattle.choosing.specs.Ranks.{Ranks, rises, ranks-rise}
 use Rattle.reclaiming.specs.Remapped.{remapped, laid}
@@ -27,9 +28,17 @@ use Rattle.reclaiming.specs.Slot.{Ends}
 use Rattle.choosing.specs.Sources.{livePages}
 use Rattle.reclaiming.specs.Labels.{Copied}
 use Rattle.reclaiming.specs.Emptied.{emptied}
-use Rattle.reclaiming.specs.Reclaims.{block-room, laid-words, rows-ends, rises-sources, rank-sources, count-sources, remapped-extents, sources-copied, moved-labels, emptied-records}
-use Rattle.reclaimable.specs.Reclaiming.{Walkable, sane-walkable, sane-records, found-victim}
+use Rattle.reclaiming.specs.Reclaims.{block-room, laid-words, rows-inside, rows-ends, rises-sources, rank-sources, count-sources, remapped-extents, sources-copied, moved-labels, emptied-records}
 use Rattle.accepted.specs.Accepts.{Ready, accepts}
+
+-- what the walks over the slots ask of them and of the reserve that the victim goes to
+pub record Walkable (h : Head) (ext : List ℕ) : Type 0 where
+  pub slots : 3 * h .used ≤ length ext
+  pub some : 1 ≤ h .pages
+  pub few : h .pages ≤ 256
+  pub room : h .reserve * h .pages + h .pages ≤ none
+  pub inside : (i : ℕ) → i < h .used → slot ext i .physical % h .pages + slot ext i .count ≤ h .pages
+  pub ends : Ends ext (h .used)
 
 module _ (out : List ℕ) (s : Lent) (z : Ready (Call.reclaim out) s) where
   sound : Sound (deviceOf s)
@@ -38,21 +47,22 @@ module _ (out : List ℕ) (s : Lent) (z : Ready (Call.reclaim out) s) where
   same : extents (deviceOf s) ≡ inUse s
   same = extents-in-use s (z .shape) (z .sane)
 
-  pub reclaim-records : (stride * s .head .blocks ≤ length (s .blockWords)) × ((b : ℕ) → b < s .head .blocks → validWord (s .blockWords) b ≤ fillWord (s .blockWords) b)
-  reclaim-records = sane-records s (z .shape) (z .sane)
-
   pub reclaim-walkable : Walkable (s .head) (s .extentWords)
-  reclaim-walkable = sane-walkable s (z .shape) (z .sane)
+  reclaim-walkable =
+      let n = s .head .pages in
+      let top = s .head .logical in
+      let sizes = z .shape .sizes in
+      let few = z .sane .few in
+      record {
+        slots = omega (arith, z .shape .extents);
+        some = sizes .n-low;
+        few = sizes .n-high;
+        room = omega (arith, block-le n (s .head .reserve) (s .head .blocks) (z .sane .kept), pages-fit sizes);
+        inside = rows-inside n top (s .extentWords) (s .head .used) (z .sane .rows);
+        ends = rows-ends n top (s .extentWords) (s .head .used) (omega (arith, lines-pages sizes, pages-high sizes)) (z .sane .rows);
+      }
 
-  pub reclaim-ends : Ends (s .extentWords) (s .head .used)
-  reclaim-ends =
-      rows-ends (s .head .pages) (s .head .logical) (s .extentWords) (s .head .used)
-      (omega (arith, lines-pages (z .shape .sizes), pages-high (z .shape .sizes))) (z .sane .rows)
-
-  module _ (v : ℕ) (f : v ≡ most (s .head .blocks) (staleWord (s .blockWords))) where
-    is : v ≡ victim (deviceOf s)
-    is = f ∙ found-victim s (z .shape) (z .sane)
-
+  module _ (v : ℕ) (is : v ≡ victim (deviceOf s)) where
     chosen : Chosen (deviceOf s) (victim (deviceOf s))
     chosen = victim-chosen (deviceOf s) sound (z .taken .gains)
 
@@ -96,10 +106,10 @@ module _ (out : List ℕ) (s : Lent) (z : Ready (Call.reclaim out) s) where
         reclaim-copied = rw reclaim-copies (sources-copied (deviceOf s) sound v inside other out out′ few listed)
 
   -- the map afterwards
-  module _ (v : ℕ) (f : v ≡ most (s .head .blocks) (staleWord (s .blockWords))) where
+  module _ (v : ℕ) (is : v ≡ victim (deviceOf s)) where
     new-extents : remapped (s .head .pages) v (s .head .reserve) (inUse s) ≡ extents (reclaimedAt v (deviceOf s))
     unfolding deviceOf
-    new-extents = ap (remapped (s .head .pages) v (s .head .reserve)) (sym same) ∙ remapped-extents (deviceOf s) sound v (inside v f) (other v f)
+    new-extents = ap (remapped (s .head .pages) v (s .head .reserve)) (sym same) ∙ remapped-extents (deviceOf s) sound v (inside v is) (other v is)
 
     slots-same : reclaimedAt v (deviceOf s) .slots ≡ s .head .slots
     unfolding reclaimedAt deviceOf
@@ -111,10 +121,11 @@ module _ (out : List ℕ) (s : Lent) (z : Ready (Call.reclaim out) s) where
         omega (
           arith,
           ap length new-extents,
-          ap (λ (u : ℕ). length (extents (reclaimedAt u (deviceOf s)))) (is v f),
-          z .taken .nodes,
-          ap (λ (u : ℕ). reclaimedAt u (deviceOf s) .slots) (is v f),
-          slots-same,
+          ap (λ (u : ℕ). length (extents (reclaimedAt u (deviceOf s)))) is,
+          reclaim-shrinks (deviceOf s) sound (z .taken .gains),
+          ap length same,
+          slots-length (s .extentWords) 0 (s .head .used),
+          z .sane .few,
           z .shape .sizes .m-high,
         )
 
@@ -132,12 +143,12 @@ module _ (out : List ℕ) (s : Lent) (z : Ready (Call.reclaim out) s) where
 
     blk-is : (blk : List ℕ) → blk ≡ emptied (s .head .reserve) v (s .blockWords) → blk ≡ records (reclaimedAt v (deviceOf s) .fills) 0 (valid (reclaimedAt v (deviceOf s)))
     unfolding deviceOf
-    blk-is blk p = p ∙ emptied-records (deviceOf s) sound v (inside v f) (other v f) (s .blockWords) given
+    blk-is blk p = p ∙ emptied-records (deviceOf s) sound v (inside v is) (other v is) (s .blockWords) given
 
     module _ (ranks : List ℕ) (r : Ranks (s .head .pages) (covered (inUse s) (s .head .pages) v) ranks)
         (out′ : List ℕ) (g : out′ ≡ over (livePages (s .head .pages) v (rises ranks)) out) (k : ℕ) (e : k ≡ getD ranks (s .head .pages) 0) where
       copies : k ≡ length (sources v (deviceOf s))
-      copies = e ∙ reclaim-copies v f ranks r
+      copies = e ∙ reclaim-copies v is ranks r
 
       -- the labels afterwards
       spare-is : (spare : List ℕ) → spare ≡ swept none (s .head .pages) (s .head .reserve) v (take k out′) (s .spare) → spare ≡ reclaimedAt v (deviceOf s) .spare
@@ -145,7 +156,7 @@ module _ (out : List ℕ) (s : Lent) (z : Ready (Call.reclaim out) s) where
       spare-is spare p =
           p
           ∙ ap (λ (m : ℕ). swept none (s .head .pages) (s .head .reserve) v (take m out′) (s .spare)) copies
-          ∙ moved-labels (deviceOf s) sound v (inside v f) (other v f) out out′ (few v f ranks r) (listed v f ranks r out′ g)
+          ∙ moved-labels (deviceOf s) sound v (inside v is) (other v is) out out′ (few v is ranks r) (listed v is ranks r out′ g)
 
       module _ (w : ℕ) (ext blk spare : List ℕ) (a : w ≡ length (remapped (s .head .pages) v (s .head .reserve) (inUse s)))
           (x : ext ≡ laid (remapped (s .head .pages) v (s .head .reserve) (inUse s)) (length (s .extentWords)))
@@ -167,9 +178,9 @@ module _ (out : List ℕ) (s : Lent) (z : Ready (Call.reclaim out) s) where
         unfolding headOf reclaimedAt deviceOf
         head-is =
             λ i. record {
-              blocks = sym (re-blocks (deviceOf s) sound v (inside v f) (other v f) ∙ device-blocks s) i;
+              blocks = sym (re-blocks (deviceOf s) sound v (inside v is) (other v is) ∙ device-blocks s) i;
               pages = s .head .pages;
-              logical = sym (re-lines (deviceOf s) sound v (inside v f) (other v f) ∙ device-lines s) i;
+              logical = sym (re-lines (deviceOf s) sound v (inside v is) (other v is) ∙ device-lines s) i;
               slots = s .head .slots;
               used = (a ∙ ap length new-extents) i;
               reserve = v;
@@ -185,6 +196,6 @@ module _ (out : List ℕ) (s : Lent) (z : Ready (Call.reclaim out) s) where
         unfolding counts leaves lists reclaimed
         reclaim-answer =
             accepts (Call.reclaim out) s z (k ∷ []) out′ (lent head ext blk spare)
-            (ap (λ (m : ℕ). m ∷ []) (copies ∙ ap (λ (u : ℕ). length (sources u (deviceOf s))) (is v f)))
-            (words ∙ ap (λ (u : ℕ). wordsOf (reclaimedAt u (deviceOf s))) (is v f))
-            (listed v f ranks r out′ g ∙ ap (λ (u : ℕ). over (sources u (deviceOf s)) out) (is v f))
+            (ap (λ (m : ℕ). m ∷ []) (copies ∙ ap (λ (u : ℕ). length (sources u (deviceOf s))) is))
+            (words ∙ ap (λ (u : ℕ). wordsOf (reclaimedAt u (deviceOf s))) is)
+            (listed v is ranks r out′ g ∙ ap (λ (u : ℕ). over (sources u (deviceOf s)) out) is)

@@ -1,6 +1,6 @@
 -- What it says that a call is accepted, that an accepted call leaves a good device, and that a refused one leaves everything.
 use Prim.Native.Nat.{ℕ, _+_, _-_, _*_, _≤_, _<_}
-use mathlib.Core.Bool.{Bool, true, false, not, cond, _||_}
+use mathlib.Core.Bool.{Bool, true, false, not, _||_}
 use mathlib.Core.Path.{_≡_, refl, sym, ap, _∙_}
 use mathlib.Core.List.{List}
 use mathlib.Core.Logic.{by-cases}
@@ -18,7 +18,7 @@ use Rattle.rules.specs.Request.{applied, judged, withTable, numbered, written, 
 use Rattle.rules.specs.Reclaim.{victim, sources, reclaimed}
 use Rattle.rules.specs.Read.{found}
 use Rattle.rules.specs.Answers.{Outcome, refuse}
-use Rattle.rules.specs.Calls.{Call, outside, tooMany, writeRefusal, trimRefusal, readRefusal, reclaimRefusal, refusal, leaves, buffer, zeros, refused, verdict, acceptedOn, call}
+use Rattle.rules.specs.Calls.{Call, outside, tooMany, writeRefusal, trimRefusal, readRefusal, reclaimRefusal, refusal, leaves, refused, verdict, acceptedOn, call}
 use Rattle.rules.specs.declared.Refusal.{Refusal}
 use Rattle.laws.specs.Bools.{or-split}
 use Rattle.laws.specs.Device.{Sound}
@@ -104,7 +104,6 @@ pub record ReadTaken (l n : ℕ) (out : List ℕ) (d : Device) : Type 0 where
 
 pub record ReclaimTaken (out : List ℕ) (d : Device) : Type 0 where
   pub gains : 0 < stale d
-  pub nodes : length (extents (reclaimed d)) ≤ reclaimed d .slots
   pub room : length (sources (victim d) d) ≤ length out
 
 abbrev pub Taken : Call → Device → Type 0
@@ -142,10 +141,9 @@ taken (Call.read l n out) d e =
     record { range = in-range l n d (a .0); room = ltb-false (length out) (3 * length (found l n d)) (y .0) }
 taken (Call.reclaim out) d e =
     let a = refuse-none (eqb (stale d) 0) Refusal.NothingStale _ e in
-    let x = refuse-none (tooMany (reclaimed d)) Refusal.NoNodes _ (a .1) in
-    let y = refuse-none (ltb (length out) (length (sources (victim d) d))) Refusal.OutShort 0 (x .1) in
+    let y = refuse-none (ltb (length out) (length (sources (victim d) d))) Refusal.OutShort 0 (a .1) in
     let z = eqb-false (stale d) 0 (a .0) in
-    record { gains = omega arith; nodes = fits (reclaimed d) (x .0); room = ltb-false (length out) (length (sources (victim d) d)) (y .0) }
+    record { gains = omega arith; room = ltb-false (length out) (length (sources (victim d) d)) (y .0) }
 taken Call.report d e = tt
 
 pub passes : (c : Call) (d : Device) → Taken c d → refusal c d ≡ 0
@@ -165,8 +163,7 @@ passes (Call.read l n out) d t =
     (refuse-pass (ltb (length out) (3 * length (found l n d))) Refusal.OutShort 0 (le-ltb (length out) (3 * length (found l n d)) (t .room)) refl)
 passes (Call.reclaim out) d t =
     refuse-pass (eqb (stale d) 0) Refusal.NothingStale _ (ne-eqb (stale d) 0 (omega (arith, t .gains)))
-    (refuse-pass (tooMany (reclaimed d)) Refusal.NoNodes _ (fits-in (reclaimed d) (t .nodes))
-    (refuse-pass (ltb (length out) (length (sources (victim d) d))) Refusal.OutShort 0 (le-ltb (length out) (length (sources (victim d) d)) (t .room)) refl))
+    (refuse-pass (ltb (length out) (length (sources (victim d) d))) Refusal.OutShort 0 (le-ltb (length out) (length (sources (victim d) d)) (t .room)) refl)
 passes Call.report d t = refl
 
 -- ---- what an accepted call leaves is good
@@ -202,17 +199,9 @@ keeps (Call.reclaim out) d g e =
     record {
       sizes = sizes-same d (reclaimed d) (r .pages) (r .slots) (r .blocks) (r .lines) (g .sizes);
       sound = r .sound;
-      few = t .nodes;
+      few = omega (arith, reclaim-shrinks d (g .sound) (t .gains), r .slots, g .few);
     }
 keeps Call.report d g e = g
-
--- a reclaim is refused only where nothing is stale or the answer buffer is too short
-pub reclaim-passes : (out : List ℕ) (d : Device) → Good d → 0 < stale d → length (sources (victim d) d) ≤ length out → ReclaimTaken out d
-reclaim-passes out d g h r = record {
-  gains = h;
-  nodes = omega (arith, reclaim-shrinks d (g .sound) h, reclaim-all d (g .sound) h .slots, g .few);
-  room = r;
-}
 
 -- ---- on lent words
 

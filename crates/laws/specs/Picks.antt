@@ -1,6 +1,6 @@
 -- The numbers below a bound that pass a test: the least of them, the list of them, and the place of each in that list. The number with the greatest value.
 use Prim.Native.Nat.{ℕ, zero, suc, _≤_, _<_}
-use mathlib.Core.Path.{_≡_, refl, sym, ap, _∙_, subst}
+use mathlib.Core.Path.{_≡_, refl, sym, ap, ap₂, _∙_, subst}
 use mathlib.Core.List.{List, [], _∷_, _++_, append-nil}
 use mathlib.Core.Bool.{Bool, true, false, cond, false≢true}
 use mathlib.Core.Logic.{by-cases}
@@ -74,6 +74,22 @@ most-lowest (suc n) f i s =
     (λ h. let e = le-ltb (f (most n f)) (f n) (omega arith) in
     let g : i < most n f = rw e at s in
     rw e (most-lowest n f i g))
+
+-- it is asked below n only
+pub most-same : (n : ℕ) (f g : ℕ → ℕ) → ((i : ℕ) → i < n → f i ≡ g i) → most n f ≡ most n g
+unfolding most
+most-same zero f g h = refl
+most-same (suc n) f g h =
+    let r = most-same n f g (λ i s. h i (omega arith)) in
+    let at : f (most n f) ≡ g (most n g) =
+    by-cases (decLt 0 n)
+    (λ s. h (most n f) (omega (arith, most-lt n f s)) ∙ ap g r)
+    (λ s. let z : n ≡ 0 = omega arith in first-same n z r) in
+    ap₂ (λ (b : Bool) (k : ℕ). cond b n k) (ap₂ ltb at (h n (omega arith))) r
+  where
+    first-same : (m : ℕ) → m ≡ 0 → most m f ≡ most m g → f (most m f) ≡ g (most m g)
+    first-same zero z r = h 0 (omega arith)
+    first-same (suc m) z r = absurd (omega arith)
 
 -- ---- those that pass, in order
 

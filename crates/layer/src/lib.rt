@@ -133,9 +133,10 @@ pub fn reclaim(
     if let Verdict::Refused(r) = v {
         return Listed::Refused(r, h);
     }
-    let w = reclaimable::reclaim_verdict(h, ext, blk, spare, out.len());
+    let victim = choosing::victim_of(blk, h.blocks);
+    let w = reclaimable::reclaim_verdict(h, ext, blk, spare, victim, out.len());
     if let Verdict::Refused(r) = w {
         return Listed::Refused(r, h);
     }
-    emptying::empty_victim(h, ext, blk, spare, out)
+    emptying::empty_victim(h, ext, blk, spare, victim, out)
 }

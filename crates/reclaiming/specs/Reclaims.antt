@@ -1,25 +1,23 @@
--- The parts of a reclaim on a device's words: the victim, the sources, and the words of the device that `reclaimedAt` leaves.
-use Prim.Native.Nat.{ℕ, zero, suc, _+_, _-_, _*_, _/_, _%_, _<_, _≤_}
-use mathlib.Core.Bool.{Bool, true, cond, false≢true}
-use mathlib.Core.Path.{_≡_, refl, sym, ap, ap₂, _∙_}
+-- The parts of a reclaim on a device's words: the sources, and the words of the device that `reclaimedAt` leaves.
+use Prim.Native.Nat.{ℕ, _+_, _-_, _*_, _/_, _%_, _<_, _≤_}
+use mathlib.Core.Bool.{Bool, true, false≢true}
+use mathlib.Core.Path.{_≡_, refl, sym, ap, _∙_}
 use mathlib.Core.List.{List, [], _∷_, _++_}
 use mathlib.Core.Logic.{by-cases}
 use native.Mathlib.Omega.{arith}
 use native.Mathlib.Decide.{decLt, ℕ-discrete}
 use native.Mathlib.Nat.{mod-lt}
-use lib.Dec.{ltb}
 use lib.ListN.{length, getD, take, drop, replicate, List·getD-append}
 use lib.Seq.{ext-getD, take-append-seam}
-use Rattle.rules.specs.Counting.{count, most, tabulate}
+use Rattle.rules.specs.Counting.{count, tabulate}
 use Rattle.rules.specs.Extents.{none, extent, end, lookup, slot, slotsFrom, flat}
 use Rattle.rules.specs.Blocks.{stride, fillWord, validWord, records}
 use Rattle.rules.specs.Calls.{over}
-use Rattle.rules.specs.Device.{Device, blocks, lines, at, fill, named, valid, staleIn, extents, wordsOf}
-use Rattle.rules.specs.Reclaim.{victim, sources, goes, moved, reclaimedAt}
+use Rattle.rules.specs.Device.{Device, blocks, lines, at, fill, named, valid, extents, wordsOf}
+use Rattle.rules.specs.Reclaim.{sources, goes, moved, reclaimedAt}
 use Rattle.rules.specs.declared.Extent.{Extent}
 use Rattle.laws.specs.Bools.{cases, same-test}
 use Rattle.laws.specs.Sums.{count-same}
-use Rattle.laws.specs.Picks.{most-lt}
 use Rattle.laws.specs.Cells.{block-le, swept, map-same, length-tabulate, getD-tabulate}
 use Rattle.laws.specs.Rows.{Rows, lookup-before, lookup-in, lookup-after}
 use Rattle.laws.specs.Unique.{extent-path}
@@ -27,14 +25,12 @@ use Rattle.laws.specs.Runs.{runs-rows, runs-lookup}
 use Rattle.laws.specs.Norm.{norm, move, movesTo, goes-moves, movesTo-here, movesTo-else}
 use Rattle.laws.specs.Device.{Sound, page-lt, none-block}
 use Rattle.laws.specs.Live.{stands, among-at}
-use Rattle.laws.specs.Balance.{valid-stale}
 use Rattle.laws.specs.Reclaimed.{re-blocks, re-fill-victim, re-fill-reserve, re-fill, length-sources, few-sources, source, source-page, nth}
 use Rattle.laws.specs.Valid.{re-valid-victim, re-valid-reserve, re-valid}
 use Rattle.laws.specs.Ranked.{rows-ranked}
 use Rattle.laws.specs.Records.{records-length, records-fill, records-valid, words-records}
 use Rattle.laws.specs.States.{table-lines}
 use Rattle.laws.specs.Encoded.{reclaim-extents}
-use Rattle.choosing.specs.Stale.{staleWord}
 use Rattle.choosing.specs.Covered.{holds, covered, holds-true, true-holds}
 use Rattle.choosing.specs.Ranks.{Ranks, rises, rises-live}
 use Rattle.reclaiming.specs.Remapped.{remapped, laid}
@@ -74,22 +70,6 @@ line-covered (x ∷ es) l n v o m e =
     rw (holds-true x (v * n + o) (omega arith) (omega arith)))
     (λ t. let g : covered es n v o ≡ true = line-covered es l n v o m (sym (lookup-after x es l (omega arith)) ∙ e) in
     cases (holds x (v * n + o)) (λ s. rw s) (λ s. rw s g)))
-
--- the greatest is asked below n only
-most-same : (n : ℕ) (f g : ℕ → ℕ) → ((i : ℕ) → i < n → f i ≡ g i) → most n f ≡ most n g
-unfolding most
-most-same zero f g h = refl
-most-same (suc n) f g h =
-    let r = most-same n f g (λ i s. h i (omega arith)) in
-    let at : f (most n f) ≡ g (most n g) =
-    by-cases (decLt 0 n)
-    (λ s. h (most n f) (omega (arith, most-lt n f s)) ∙ ap g r)
-    (λ s. let z : n ≡ 0 = omega arith in first n z r) in
-    ap₂ (λ (b : Bool) (k : ℕ). cond b n k) (ap₂ ltb at (h n (omega arith))) r
-  where
-    first : (m : ℕ) → m ≡ 0 → most m f ≡ most m g → f (most m f) ≡ g (most m g)
-    first zero z r = h 0 (omega arith)
-    first (suc m) z r = absurd (omega arith)
 
 -- words are the records of what stands in them
 tabulate-same : (fs : List ℕ) → tabulate (length fs) (λ i. getD fs i 0) ≡ fs
@@ -138,14 +118,6 @@ module _ (d : Device) (s : Sound d) where
       among-at p (d .table) none (r .line) (sym (says (r .line)) ∙ r .is) m)
       (λ t. let r = stands p (d .table) none t in
       line-covered (extents d) (r .line) (d .pages) v o m (says (r .line) ∙ r .is))
-
-  -- ---- the victim
-
-  pub victim-words : (ws : List ℕ) → ((b : ℕ) → b < blocks d → fillWord ws b ≡ fill d b) → ((b : ℕ) → b < blocks d → validWord ws b ≡ valid d b)
-      → most (blocks d) (staleWord ws) ≡ victim d
-  unfolding victim
-  victim-words ws f w =
-      most-same (blocks d) (staleWord ws) (staleIn d) (λ b h. omega (arith, f b h, w b h, valid-stale d s b h))
 
   module _ (v : ℕ) (a : v < blocks d) (e : v ≡ d .reserve → ⊥) where
     -- ---- the map

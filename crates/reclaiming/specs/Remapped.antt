@@ -1,5 +1,5 @@
--- The map after a reclaim: each extent moved whole, and joined wherever rule 2 asks. How many there are then, and the joining from the left.
-use Prim.Native.Nat.{ℕ, zero, suc, _+_, _*_, _-_, _/_, _%_, _<_}
+-- The map after a reclaim: each extent moved whole, and joined wherever rule 2 asks; the joining from the left.
+use Prim.Native.Nat.{ℕ, _+_, _*_, _-_, _/_, _%_, _<_}
 use mathlib.Core.Bool.{Bool, true, false, cond}
 use mathlib.Core.Path.{_≡_, refl, sym, ap, _∙_}
 use mathlib.Core.List.{List, [], _∷_, _++_, map}
@@ -10,11 +10,10 @@ use native.Mathlib.Nat.{mod-lt}
 use borrow.Author.Tests.{eq-eqb, ne-eqb}
 use lib.Dec.{eqb}
 use lib.ListN.{length, getD, replicate}
-use Rattle.rules.specs.Counting.{one, count}
+use Rattle.rules.specs.Counting.{count}
 use Rattle.rules.specs.Extents.{extent, joinable, join, flat}
 use Rattle.rules.specs.declared.Extent.{Extent}
 use Rattle.laws.specs.Bools.{cases, never, same-test}
-use Rattle.laws.specs.Sums.{count-first}
 use Rattle.laws.specs.Cells.{map-same}
 use Rattle.laws.specs.Unique.{extent-path}
 use Rattle.laws.specs.Runs.{joinable-true, joined-true, join-joined, join-apart}
@@ -87,42 +86,6 @@ joinable-both n a b c e =
     joined-true n b c (record { block = sym (j .block) ∙ k .block; logical = omega (arith, j .logical, k .logical); physical = omega (arith, j .physical, k .physical) }))
     (λ t. let k = joinable-true n b c t in
     joined-true n both c (record { block = j .block ∙ k .block; logical = omega (arith, j .logical, k .logical); physical = omega (arith, j .physical, k .physical) }))
-
--- ---- how many: each slot that is joinable with the next is one less
-
-module _ (n : ℕ) (a b : Extent) where
-  by-head : (h : Extent) (hs : List Extent) → h .logical ≡ b .logical → h .physical ≡ b .physical
-      → length (join n a (h ∷ hs)) + one (joinable n a b) ≡ suc (length (h ∷ hs))
-  by-head h hs l p =
-      let s = joinable-second n a h b l p in
-      cases (joinable n a h)
-      (λ t. omega (arith, ap length (join-joined n a h hs t), ap one (sym s ∙ t)))
-      (λ t. omega (arith, ap length (join-apart n a h hs t), ap one (sym s ∙ t)))
-
-  -- the first of a joined list begins where the list began
-  by-join : (hs : List Extent) → length (join n a (join n b hs)) + one (joinable n a b) ≡ suc (length (join n b hs))
-  unfolding join
-  by-join [] = by-head b [] refl refl
-  by-join (h ∷ hs) =
-      cases (joinable n b h)
-      (λ t. rw (join-joined n b h hs t) (by-head (extent (b .logical) (b .physical) (b .count + h .count)) hs refl refl))
-      (λ t. rw (join-apart n b h hs t) (by-head b (h ∷ hs) refl refl))
-
-pub norm-count : (n : ℕ) (z : Extent) (es : List Extent) (k : ℕ) → k ≡ length es - 1
-    → length (norm n es) + count k (λ i. joinable n (getD es i z) (getD es (suc i) z)) ≡ length es
-unfolding norm count join
-norm-count n z [] zero e = refl
-norm-count n z [] (suc k) e = absurd (omega arith)
-norm-count n z (a ∷ []) zero e = refl
-norm-count n z (a ∷ []) (suc k) e = absurd (omega arith)
-norm-count n z (a ∷ b ∷ es) zero e = absurd (omega arith)
-norm-count n z (a ∷ b ∷ es) (suc k) e =
-    omega (
-      arith,
-      by-join n a b (norm n es),
-      norm-count n z (b ∷ es) k (omega arith),
-      count-first k (λ i. joinable n (getD (a ∷ b ∷ es) i z) (getD (a ∷ b ∷ es) (suc i) z)),
-    )
 
 -- ---- from the left: an extent behind others, joined with the last of them where rule 2 asks
 

@@ -4,26 +4,23 @@ use mathlib.Core.Bool.{Bool, true, false, _&&_}
 use mathlib.Core.Path.{_≡_, refl, sym, ap, ap₂, _∙_, subst}
 use mathlib.Core.List.{List, [], _∷_, _++_, map, map-append, append-assoc}
 use native.Mathlib.Omega.{arith}
-use native.Mathlib.Numerals.{add-one}
 use borrow.Author.Tests.{lt-ltb, le-ltb, ltb-true}
 use borrow.Rule.Slice.PartMut.{midOf, putMid}
 use lib.Dec.{ltb}
-use lib.ListN.{length, getD, set, replicate, length-map, length-drop, length-set}
+use lib.ListN.{length, getD, set, replicate, length-drop, length-set}
 use lib.Seq.{getD-set-same, getD-set-other}
 use Rattle.rules.specs.Counting.{one, count}
 use Rattle.rules.specs.Extents.{none, extent, end, joinable, slot, slotsFrom, flat}
 use Rattle.rules.specs.declared.Extent.{Extent}
 use Rattle.laws.specs.Bools.{and-split}
-use Rattle.laws.specs.Sums.{count-same}
-use Rattle.laws.specs.Cells.{map-at}
-use Rattle.laws.specs.Slots.{slots-length, slots-at, slots-more, flat-slots}
+use Rattle.laws.specs.Slots.{slots-length, slots-more, flat-slots}
 use Rattle.laws.specs.Unique.{extent-path}
 use Rattle.laws.specs.Runs.{joinable-true, join-joined, join-apart}
 use Rattle.laws.specs.Norm.{norm, move}
 use Rattle.words.specs.Parts.{mid-tail, put-tail}
 use Rattle.choosing.specs.Covered.{covered}
 use Rattle.choosing.specs.Ranks.{Ranks}
-use Rattle.reclaiming.specs.Remapped.{remapped, laid, place, places-moved, norm-count, push, norm-push, push-last}
+use Rattle.reclaiming.specs.Remapped.{remapped, laid, place, places-moved, push, norm-push, push-last}
 
 -- each of u slots ends at or below the greatest word
 abbrev pub Ends : List ℕ → ℕ → Type 0
@@ -44,47 +41,6 @@ slots-same ws ws′ i (suc u) h =
     ap₂ (λ (e : Extent) (es : List Extent). e ∷ es)
     (slot-same ws ws′ i (λ k a b. h k a (omega arith)))
     (slots-same ws ws′ (i + 1) u (λ k a b. h k (omega arith) (omega arith)))
-
--- ---- how many extents once each slot's page has moved
-
-pub slots-move : (ws : List ℕ) (u : ℕ) (g : ℕ → ℕ) (i : ℕ) (z : Extent) → i < u → getD (map (move g) (slotsFrom ws 0 u)) i z ≡ move g (slot ws i)
-slots-move ws u g i z h =
-    map-at z (move g) (slotsFrom ws 0 u) i z (omega (arith, slots-length ws 0 u)) ∙ ap (move g) (slots-at ws 0 u i i z h (omega arith))
-
--- slot j is joinable with the next once their pages have moved
-abbrev pub joinsAfter : ℕ → List ℕ → ℕ → ℕ → List ℕ → ℕ → Bool
-joinsAfter n ranks v r ws j = joinable n (move (place n ranks v r) (slot ws j)) (move (place n ranks v r) (slot ws (j + 1)))
-
-pub count-start : (t : ℕ → Bool) → count 0 t ≡ 0
-unfolding count
-count-start t = refl
-
-pub count-next : (t : ℕ → Bool) (i : ℕ) (b : Bool) → b ≡ t i → count (i + 1) t ≡ count i t + one b
-unfolding count
-count-next t i b e = rw (add-one i, e)
-
-joined-count : (ws : List ℕ) (u n : ℕ) (g : ℕ → ℕ) (k i : ℕ) → i ≡ u - 1
-    → k + count i (λ j. joinable n (move g (slot ws j)) (move g (slot ws (j + 1)))) ≡ u
-    → k ≡ length (norm n (map (move g) (slotsFrom ws 0 u)))
-joined-count ws u n g k i e h =
-    let z = extent 0 0 0 in
-    let es = map (move g) (slotsFrom ws 0 u) in
-    let l : length (map (move g) (slotsFrom ws 0 u)) ≡ u = length-map (slotsFrom ws 0 u) (move g) ∙ slots-length ws 0 u in
-    omega (
-      arith,
-      norm-count n z es i (omega arith),
-      count-same i (λ j. joinable n (getD es j z) (getD es (suc j) z)) (λ j. joinable n (move g (slot ws j)) (move g (slot ws (j + 1))))
-          (λ j s. let next : suc j ≡ j + 1 = omega arith in
-          ap₂ (joinable n) (slots-move ws u g j z (omega arith)) (slots-move ws u g (suc j) z (omega arith) ∙ ap (λ (x : ℕ). move g (slot ws x)) next)),
-    )
-
-pub remapped-count : (ws : List ℕ) (u n : ℕ) (ranks : List ℕ) (v r k i : ℕ) → 0 < n → Ranks n (covered (slotsFrom ws 0 u) n v) ranks → i ≡ u - 1
-    → k + count i (joinsAfter n ranks v r ws) ≡ u
-    → k ≡ length (remapped n v r (slotsFrom ws 0 u))
-unfolding remapped
-remapped-count ws u n ranks v r k i z h e c =
-    joined-count ws u n (place n ranks v r) k i e c
-    ∙ ap (λ (es : List Extent). length (norm n es)) (places-moved n ranks v r (covered (slotsFrom ws 0 u) n v) (slotsFrom ws 0 u) z h)
 
 -- ---- slots pushed from the left
 

@@ -113,24 +113,6 @@ fn slot_after(ext: &[u32], i: usize, n: u32, v: u32, r: u32, ranks: &[u32]) -> E
     }
 }
 
-// How many extents the map has afterwards.
-pub fn joined_of(ext: &[u32], used: usize, n: u32, v: u32, r: u32, ranks: &[u32]) -> usize
-    requires { ⌜ (3 * used ≤ length (now ext)) × (1 ≤ n) × (r * n + n ≤ none) × Ranks n (covered (slotsFrom (now ext) 0 used) n v) (now ranks) ⌝ }
-    ensures { λ k. ⌜ k ≡ length (remapped n v r (slotsFrom (now (ext .entry)) 0 used)) ⌝ }
-{
-    let mut k = used;
-    let mut i: usize = 0;
-    while i + 1 < used {
-        let a = slot_after(ext, i, n, v, r, ranks);
-        let b = slot_after(ext, i + 1, n, v, r, ranks);
-        if joins(a, b, n) {
-            k -= 1;
-        }
-        i += 1;
-    }
-    k
-}
-
 fn put_slot(ext: &mut [u32], i: usize, e: Extent)
     requires { ⌜ 3 * i + 2 < length (now ext) ⌝ }
     ensures { λ _. ⌜ now (ext .exit) ≡ put (now (ext .entry)) i e ⌝ }

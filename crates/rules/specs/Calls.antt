@@ -59,12 +59,11 @@ readRefusal l n out d =
     refuse (outside l n d) Refusal.Range
     (refuse (ltb (length out) (3 * length (found l n d))) Refusal.OutShort 0)
 
--- 8 stands before 6; 7: 1 word a copied page
+-- 8 stands directly after 2; 02, T-12: a reclaim is not tested for 6; 7: 1 word a copied page
 unfoldable pub reclaimRefusal : List ℕ → Device → ℕ
 reclaimRefusal out d =
     refuse (eqb (stale d) 0) Refusal.NothingStale
-    (refuse (tooMany (reclaimed d)) Refusal.NoNodes
-    (refuse (ltb (length out) (length (sources (victim d) d))) Refusal.OutShort 0))
+    (refuse (ltb (length out) (length (sources (victim d) d))) Refusal.OutShort 0)
 
 unfoldable pub refusal : Call → Device → ℕ
 refusal (write k l n out) d = writeRefusal k l n out d

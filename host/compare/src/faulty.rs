@@ -32,6 +32,7 @@ pub enum Fault {
     ReclaimListsInLogicalOrder,
     ReclaimErasesWithZero,
     ReclaimRefusesToCopy,
+    ReclaimRefusesWithAllSlotsInUse,
     ReportIgnoresTheReservesFill,
     /// On the largest devices only.
     ReportIgnoresTheLastLabel,
@@ -311,6 +312,7 @@ impl<L: Layer> Layer for Faulty<L> {
     fn reclaim(&self, head: Head, words: &mut Words, answer: &mut [u32]) -> Outcome {
         let (before, answer_before) = (words.clone(), answer.to_vec());
         let mut outcome = self.reclaim_highest(head, words, answer);
+        let mut refused = None;
         match (self.fault, outcome.refusal) {
             (Fault::ReclaimListsInLogicalOrder, 0) => {
                 let label = |&page: &u32| before.spare[page as usize];
@@ -320,12 +322,16 @@ impl<L: Layer> Layer for Faulty<L> {
                 let erased = outcome.head.reserve * head.pages;
                 (erased..erased + head.pages).for_each(|page| set(&mut words.spare, page as usize, 0));
             }
-            (Fault::ReclaimRefusesToCopy, 0) if outcome.count > 0 => {
-                *words = before;
-                answer.copy_from_slice(&answer_before);
-                outcome = Outcome { refusal: Refusal::NothingStale.number(), count: 0, head };
+            (Fault::ReclaimRefusesToCopy, 0) if outcome.count > 0 => refused = Some(Refusal::NothingStale),
+            (Fault::ReclaimRefusesWithAllSlotsInUse, 0) if head.used == head.slots => {
+                refused = Some(Refusal::NoNodes);
             }
             _ => {}
+        }
+        if let Some(refusal) = refused {
+            *words = before;
+            answer.copy_from_slice(&answer_before);
+            outcome = Outcome { refusal: refusal.number(), count: 0, head };
         }
         outcome
     }

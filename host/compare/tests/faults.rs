@@ -54,6 +54,7 @@ const FAULTS: &[(Fault, &[Check])] = &[
     (Fault::ReclaimListsInLogicalOrder, &[HISTORIES, FLASH]),
     (Fault::ReclaimErasesWithZero, &[HISTORIES, FLASH]),
     (Fault::ReclaimRefusesToCopy, &[HISTORIES, FLASH]),
+    (Fault::ReclaimRefusesWithAllSlotsInUse, &[HISTORIES, FLASH]),
     (Fault::ReportIgnoresTheReservesFill, &[DAMAGED]),
     (Fault::ReportIgnoresTheLastLabel, &[BOUNDARIES]),
 ];

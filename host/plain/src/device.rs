@@ -101,14 +101,13 @@ impl Device {
     }
 
     /// 01, reclaim: the source pages. The new reserve is the victim, which the
-    /// host must erase.
+    /// host must erase. 02, T-12: it needs no slot more, and is not tested for 6.
     pub fn reclaim(mut self, room: usize) -> Result<(Device, Vec<u32>), Refusal> {
         let owners = self.owners();
         let victim = self.victim(&owners).ok_or(Refusal::NothingStale)?;
         let sources = self.copy_into_reserve(victim, &owners);
         self.erase(victim);
         self.reserve = victim;
-        self.slots_suffice()?;
         if room < sources.len() {
             return Err(Refusal::OutShort);
         }

@@ -281,7 +281,11 @@ impl<L: Layer + Clone> Host<L> {
 
     fn reclaim(&mut self) -> Checked<Outcome> {
         let before = self.head;
+        let stale = if self.thorough { Some(self.report()?.stale) } else { None };
         let answer = self.call(Request::Reclaim)?;
+        if let Some(stale) = stale {
+            self.check_reclaim_refusal(answer.outcome, stale)?;
+        }
         if answer.outcome.refusal != 0 {
             return Ok(answer.outcome);
         }
@@ -290,6 +294,14 @@ impl<L: Layer + Clone> Host<L> {
         check(self.head.last == before.last, "a reclaim changed the last number")?;
         self.check_after_change()?;
         Ok(answer.outcome)
+    }
+
+    /// Refusal 8 exactly when no page is stale; else 7 alone, and never with as much
+    /// room as any answer needs.
+    fn check_reclaim_refusal(&self, outcome: Outcome, stale: u32) -> Checked {
+        let short = outcome.refusal == 7 && self.room < self.head.pages;
+        let expected = if stale == 0 { outcome.refusal == 8 } else { outcome.refusal == 0 || short };
+        check(expected, "a reclaim has another refusal")
     }
 
     fn check_after_change(&mut self) -> Checked {

@@ -28,7 +28,7 @@ pub enum Refusal {
     Applied = 4,
     /// Fewer pages are free than the write has. Reclaiming frees some as long as any is stale.
     NoPages = 5,
-    /// The map afterwards would have more extents than slots. Write, trim, reclaim.
+    /// The map afterwards would have more extents than slots. Write, trim.
     NoNodes = 6,
     /// The answer buffer is shorter than the answer. Write, read, reclaim.
     OutShort = 7,

@@ -1,20 +1,25 @@
 use borrow.Author.Needs.{needs}
 use native.Mathlib.Omega.{arith}
 use mathlib.Core.Path.{refl}
-use Rattle.rules.specs.Lent.{lent}
-use Rattle.emptying.specs.Reclaims.{reclaim-records, reclaim-walkable, reclaim-ends, reclaim-moves, reclaim-lists, reclaim-copied, reclaim-few, reclaim-answer}
+use Rattle.rules.specs.Lent.{Lent, lent}
+use Rattle.emptying.specs.Reclaims.{reclaim-walkable, reclaim-moves, reclaim-lists, reclaim-copied, reclaim-few, reclaim-answer}
 use Rattle.emptying.proofs.empty_victim.Statement.{statement}
 use Rattle.emptying.proofs.empty_victim.Tie as tie
+
+abbrev state : tie.Start → Lent
+state s = lent (s .args .h) (s .args .ext .now) (s .args .blk .now) (s .args .spare .now)
+
+-- what was lent, from where the ranks are known
+abbrev start : tie.After-ranks-of → tie.Start
+start r = r .before .before .before .before .before .before .before
 
 cast-used : tie.Need-cast-used
 cast-used c = search needs
 
-victim-of-requires : tie.Need-victim-of-requires
-victim-of-requires c κs = reclaim-records (c .before .before .before .before .before .before .args .out .now) (lent (c .before .before .before .before .before .before .args .h) (c .before .before .before .before .before .before .args .ext .now) (c .before .before .before .before .before .before .args .blk .now) (c .before .before .before .before .before .before .args .spare .now)) (c .before .before .before .before .before .before .pre)
-
 ranks-of-requires : tie.Need-ranks-of-requires
 ranks-of-requires c κs =
-    let w = reclaim-walkable (c .before .before .before .before .before .before .before .before .args .out .now) (lent (c .before .before .before .before .before .before .before .before .args .h) (c .before .before .before .before .before .before .before .before .args .ext .now) (c .before .before .before .before .before .before .before .before .args .blk .now) (c .before .before .before .before .before .before .before .before .args .spare .now)) (c .before .before .before .before .before .before .before .before .pre) in
+    let s = c .before .before .before .before .before .before in
+    let w = reclaim-walkable (s .args .out .now) (state s) (s .pre .0) in
     ((w .slots, w .some, w .few), w .inside)
 
 cast-k : tie.Need-cast-k
@@ -30,27 +35,41 @@ slice-aggregate-list-sources : tie.Need-slice-aggregate-list-sources
 slice-aggregate-list-sources c = search needs
 
 list-sources-requires : tie.Need-list-sources-requires
-list-sources-requires c κs = reclaim-lists (c .before .before .before .before .before .before .before .before .before .before .before .args .out .now) (lent (c .before .before .before .before .before .before .before .before .before .before .before .args .h) (c .before .before .before .before .before .before .before .before .before .before .before .args .ext .now) (c .before .before .before .before .before .before .before .before .before .before .before .args .blk .now) (c .before .before .before .before .before .before .before .before .before .before .before .args .spare .now)) (c .before .before .before .before .before .before .before .before .before .before .before .pre) (c .before .before .before .before .victim-of .result) (c .before .before .before .before .victim-of .ensures) (c .before .before .ranks-of .result) (c .before .before .ranks-of .ensures)
+list-sources-requires c κs =
+    let r = c .before .before in
+    let s = start r in
+    reclaim-lists (s .args .out .now) (state s) (s .pre .0) (s .args .v) (s .pre .1) (r .ranks-of .result) (r .ranks-of .ensures)
 
 cast-move-labels : tie.Need-cast-move-labels
 cast-move-labels c = search needs
 
 move-labels-requires : tie.Need-move-labels-requires
-move-labels-requires c κs = reclaim-copied (c .before .before .before .before .before .before .before .before .before .before .before .before .before .before .before .before .args .out .now) (lent (c .before .before .before .before .before .before .before .before .before .before .before .before .before .before .before .before .args .h) (c .before .before .before .before .before .before .before .before .before .before .before .before .before .before .before .before .args .ext .now) (c .before .before .before .before .before .before .before .before .before .before .before .before .before .before .before .before .args .blk .now) (c .before .before .before .before .before .before .before .before .before .before .before .before .before .before .before .before .args .spare .now)) (c .before .before .before .before .before .before .before .before .before .before .before .before .before .before .before .before .pre) (c .before .before .before .before .before .before .before .before .before .victim-of .result) (c .before .before .before .before .before .before .before .before .before .victim-of .ensures) (c .before .before .before .before .before .before .before .ranks-of .result) (c .before .before .before .before .before .before .before .ranks-of .ensures) _ (c .before .before .before .before .list-sources .ensures)
+move-labels-requires c κs =
+    let o = c .before .before .before .before in
+    let r = o .before .before .before in
+    let s = start r in
+    reclaim-copied (s .args .out .now) (state s) (s .pre .0) (s .args .v) (s .pre .1) (r .ranks-of .result) (r .ranks-of .ensures) _ (o .list-sources .ensures)
 
 move-blocks-requires : tie.Need-move-blocks-requires
-move-blocks-requires c κs = reclaim-moves (c .before .before .before .before .before .before .before .before .before .before .before .before .before .before .before .before .before .before .before .before .args .out .now) (lent (c .before .before .before .before .before .before .before .before .before .before .before .before .before .before .before .before .before .before .before .before .args .h) (c .before .before .before .before .before .before .before .before .before .before .before .before .before .before .before .before .before .before .before .before .args .ext .now) (c .before .before .before .before .before .before .before .before .before .before .before .before .before .before .before .before .before .before .before .before .args .blk .now) (c .before .before .before .before .before .before .before .before .before .before .before .before .before .before .before .before .before .before .before .before .args .spare .now)) (c .before .before .before .before .before .before .before .before .before .before .before .before .before .before .before .before .before .before .before .before .pre) (c .before .before .before .before .before .before .before .before .before .before .before .before .before .victim-of .result) (c .before .before .before .before .before .before .before .before .before .before .before .before .before .victim-of .ensures)
+move-blocks-requires c κs =
+    let s = start (c .before .before .before .before .before .before .before .before .before .before .before) in
+    reclaim-moves (s .args .out .now) (state s) (s .pre .0) (s .args .v) (s .pre .1)
 
 slice-aggregate-move-map : tie.Need-slice-aggregate-move-map
 slice-aggregate-move-map c = search needs
 
 move-map-requires : tie.Need-move-map-requires
 move-map-requires c κs =
-    let w = reclaim-walkable (c .before .before .before .before .before .before .before .before .before .before .before .before .before .before .before .before .before .before .before .before .before .before .before .before .before .args .out .now) (lent (c .before .before .before .before .before .before .before .before .before .before .before .before .before .before .before .before .before .before .before .before .before .before .before .before .before .args .h) (c .before .before .before .before .before .before .before .before .before .before .before .before .before .before .before .before .before .before .before .before .before .before .before .before .before .args .ext .now) (c .before .before .before .before .before .before .before .before .before .before .before .before .before .before .before .before .before .before .before .before .before .before .before .before .before .args .blk .now) (c .before .before .before .before .before .before .before .before .before .before .before .before .before .before .before .before .before .before .before .before .before .before .before .before .before .args .spare .now)) (c .before .before .before .before .before .before .before .before .before .before .before .before .before .before .before .before .before .before .before .before .before .before .before .before .before .pre) in
-    (w .slots, w .some, w .room, c .before .before .before .before .before .before .before .before .before .before .before .before .before .before .before .before .ranks-of .ensures, reclaim-ends (c .before .before .before .before .before .before .before .before .before .before .before .before .before .before .before .before .before .before .before .before .before .before .before .before .before .args .out .now) (lent (c .before .before .before .before .before .before .before .before .before .before .before .before .before .before .before .before .before .before .before .before .before .before .before .before .before .args .h) (c .before .before .before .before .before .before .before .before .before .before .before .before .before .before .before .before .before .before .before .before .before .before .before .before .before .args .ext .now) (c .before .before .before .before .before .before .before .before .before .before .before .before .before .before .before .before .before .before .before .before .before .before .before .before .before .args .blk .now) (c .before .before .before .before .before .before .before .before .before .before .before .before .before .before .before .before .before .before .before .before .before .before .before .before .before .args .spare .now)) (c .before .before .before .before .before .before .before .before .before .before .before .before .before .before .before .before .before .before .before .before .before .before .before .before .before .pre))
+    let r = c .before .before .before .before .before .before .before .before .before .before .before .before .before .before .before .before in
+    let s = start r in
+    let w = reclaim-walkable (s .args .out .now) (state s) (s .pre .0) in
+    (w .slots, w .some, w .room, r .ranks-of .ensures, w .ends)
 
 cast-after : tie.Need-cast-after
-cast-after c = omega (arith, reclaim-few (c .before .before .before .before .before .before .before .before .before .before .before .before .before .before .before .before .before .before .before .before .before .before .before .before .before .before .before .before .args .out .now) (lent (c .before .before .before .before .before .before .before .before .before .before .before .before .before .before .before .before .before .before .before .before .before .before .before .before .before .before .before .before .args .h) (c .before .before .before .before .before .before .before .before .before .before .before .before .before .before .before .before .before .before .before .before .before .before .before .before .before .before .before .before .args .ext .now) (c .before .before .before .before .before .before .before .before .before .before .before .before .before .before .before .before .before .before .before .before .before .before .before .before .before .before .before .before .args .blk .now) (c .before .before .before .before .before .before .before .before .before .before .before .before .before .before .before .before .before .before .before .before .before .before .before .before .before .before .before .before .args .spare .now)) (c .before .before .before .before .before .before .before .before .before .before .before .before .before .before .before .before .before .before .before .before .before .before .before .before .before .before .before .before .pre) (c .before .before .before .before .before .before .before .before .before .before .before .before .before .before .before .before .before .before .before .before .before .victim-of .result) (c .before .before .before .before .before .before .before .before .before .before .before .before .before .before .before .before .before .before .before .before .before .victim-of .ensures), c .before .before .move-map .ensures .0)
+cast-after c =
+    let m = c .before .before in
+    let s = start (m .before .before .before .before .before .before .before .before .before .before .before .before .before .before .before .before .before) in
+    omega (arith, reclaim-few (s .args .out .now) (state s) (s .pre .0) (s .args .v) (s .pre .1), m .move-map .ensures .0)
 
 same-length : tie.Need-same-length
 same-length c = search needs
@@ -66,15 +85,20 @@ same-length-4 c = search needs
 
 returns : tie.Need-returns
 returns c =
-    reclaim-answer (c .before .before .before .before .before .before .before .before .before .before .before .before .before .before .before .before .before .before .before .before .before .before .before .before .before .before .before .before .args .out .now) (lent (c .before .before .before .before .before .before .before .before .before .before .before .before .before .before .before .before .before .before .before .before .before .before .before .before .before .before .before .before .args .h) (c .before .before .before .before .before .before .before .before .before .before .before .before .before .before .before .before .before .before .before .before .before .before .before .before .before .before .before .before .args .ext .now) (c .before .before .before .before .before .before .before .before .before .before .before .before .before .before .before .before .before .before .before .before .before .before .before .before .before .before .before .before .args .blk .now) (c .before .before .before .before .before .before .before .before .before .before .before .before .before .before .before .before .before .before .before .before .before .before .before .before .before .before .before .before .args .spare .now)) (c .before .before .before .before .before .before .before .before .before .before .before .before .before .before .before .before .before .before .before .before .before .before .before .before .before .before .before .before .pre) (c .before .before .before .before .before .before .before .before .before .before .before .before .before .before .before .before .before .before .before .before .before .victim-of .result) (c .before .before .before .before .before .before .before .before .before .before .before .before .before .before .before .before .before .before .before .before .before .victim-of .ensures) (c .before .before .before .before .before .before .before .before .before .before .before .before .before .before .before .before .before .before .before .ranks-of .result) (c .before .before .before .before .before .before .before .before .before .before .before .before .before .before .before .before .before .before .before .ranks-of .ensures) _ (c .before .before .before .before .before .before .before .before .before .before .before .before .before .before .before .before .list-sources .ensures) _ refl _ _ _ _
-    (c .before .before .move-map .ensures .0) (c .before .before .move-map .ensures .1) (c .before .before .before .before .before .before .before .move-blocks .ensures) (c .before .before .before .before .before .before .before .before .before .before .before .move-labels .ensures)
+    let m = c .before .before in
+    let b = m .before .before .before .before .before in
+    let l = b .before .before .before .before in
+    let o = l .before .before .before .before .before in
+    let r = o .before .before .before in
+    let s = start r in
+    reclaim-answer (s .args .out .now) (state s) (s .pre .0) (s .args .v) (s .pre .1) (r .ranks-of .result) (r .ranks-of .ensures) _ (o .list-sources .ensures)
+    _ refl _ _ _ _ (m .move-map .ensures .0) (m .move-map .ensures .1) (b .move-blocks .ensures) (l .move-labels .ensures)
 
 pub empty-victim-spec : {M : Type 1} → statement M
 empty-victim-spec =
     tie.close
     (tie.spec
     cast-used
-    victim-of-requires
     ranks-of-requires
     cast-k
     mul-k

@@ -1,11 +1,35 @@
 use borrow.Author.Needs.{needs}
-use Rattle.rules.specs.Lent.{lent}
+use mathlib.Core.Path.{_≡_, _∙_}
+use Rattle.rules.specs.Lent.{Lent, lent}
 use Rattle.rules.specs.Device.{deviceOf}
+use Rattle.rules.specs.Reclaim.{victim}
 use Rattle.rules.specs.Calls.{Call, refused}
+use Rattle.laws.specs.Sane.{Shaped, Sane}
 use Rattle.verdicts.specs.Refusals.{lent-refuses}
+use Rattle.reclaimable.specs.Reclaiming.{sane-records, found-victim}
 use Rattle.accepted.specs.Accepts.{reclaim-room, ready-shape, ready-sane, ready, refuses}
 use Rattle.layer.proofs.reclaim.Statement.{statement}
 use Rattle.layer.proofs.reclaim.Tie as tie
+
+abbrev asks : tie.Start → Call
+asks s = Call.reclaim (s .args .out .now)
+
+abbrev state : tie.Start → Lent
+state s = lent (s .args .h) (s .args .ext .now) (s .args .blk .now) (s .args .spare .now)
+
+-- where the first verdict has accepted
+abbrev start : tie.After-enum-told → tie.Start
+start t = t .before .before .before .before .before .before .before .before .before .before
+
+shape : (t : tie.After-enum-told) → Shaped (state (start t))
+shape t = ready-shape (asks (start t)) (state (start t)) _ (t .before .before .lent-verdict .ensures) (t .enum-told .given .1)
+
+sane : (t : tie.After-enum-told) → Sane (state (start t))
+sane t = ready-sane (asks (start t)) (state (start t)) _ (t .before .before .lent-verdict .ensures) (t .enum-told .given .1)
+
+-- where the victim is found
+found : (v : tie.After-victim-of) → v .victim-of .result ≡ victim (deviceOf (state (start (v .before .before))))
+found v = let t = v .before .before in v .victim-of .ensures ∙ found-victim (state (start t)) (shape t) (sane t)
 
 lent-verdict-requires : tie.Need-lent-verdict-requires
 lent-verdict-requires c κs = search needs
@@ -24,13 +48,21 @@ same-length-3 c = search needs
 
 returns : tie.Need-returns
 unfolding refused
-returns c = lent-refuses (Call.reclaim (c .before .before .before .before .before .before .before .before .before .before .before .args .out .now)) (lent (c .before .before .before .before .before .before .before .before .before .before .before .args .h) (c .before .before .before .before .before .before .before .before .before .before .before .args .ext .now) (c .before .before .before .before .before .before .before .before .before .before .before .args .blk .now) (c .before .before .before .before .before .before .before .before .before .before .before .args .spare .now)) _ (c .before .v .given .0 .0) (c .before .before .before .lent-verdict .ensures) (c .before .v .given .1)
+returns c =
+    let s = c .before .before .before .before .before .before .before .before .before .before .before in
+    lent-refuses (asks s) (state s) _ (c .before .v .given .0 .0) (c .before .before .before .lent-verdict .ensures) (c .before .v .given .1)
 
 enum-told : tie.Need-enum-told
 enum-told c = search needs
 
+victim-of-requires : tie.Need-victim-of-requires
+victim-of-requires c κs = let t = c .before in sane-records (state (start t)) (shape t) (sane t)
+
 reclaim-verdict-requires : tie.Need-reclaim-verdict-requires
-reclaim-verdict-requires c κs = (ready-shape (Call.reclaim (c .before .before .before .before .before .before .before .before .before .before .before .before .before .args .out .now)) (lent (c .before .before .before .before .before .before .before .before .before .before .before .before .before .args .h) (c .before .before .before .before .before .before .before .before .before .before .before .before .before .args .ext .now) (c .before .before .before .before .before .before .before .before .before .before .before .before .before .args .blk .now) (c .before .before .before .before .before .before .before .before .before .before .before .before .before .args .spare .now)) _ (c .before .before .before .before .before .lent-verdict .ensures) (c .before .before .before .enum-told .given .1), ready-sane (Call.reclaim (c .before .before .before .before .before .before .before .before .before .before .before .before .before .args .out .now)) (lent (c .before .before .before .before .before .before .before .before .before .before .before .before .before .args .h) (c .before .before .before .before .before .before .before .before .before .before .before .before .before .args .ext .now) (c .before .before .before .before .before .before .before .before .before .before .before .before .before .args .blk .now) (c .before .before .before .before .before .before .before .before .before .before .before .before .before .args .spare .now)) _ (c .before .before .before .before .before .lent-verdict .ensures) (c .before .before .before .enum-told .given .1))
+reclaim-verdict-requires c κs =
+    let v = c .before .before .before in
+    let t = v .before .before in
+    ((shape t, sane t), found v)
 
 enum-known-w : tie.Need-enum-known-w
 enum-known-w c = search needs
@@ -46,13 +78,26 @@ same-length-6 c = search needs
 
 returns-2 : tie.Need-returns-2
 unfolding refused
-returns-2 c = refuses (Call.reclaim (c .before .before .before .before .before .before .before .before .before .before .before .before .before .before .before .before .before .args .out .now)) (lent (c .before .before .before .before .before .before .before .before .before .before .before .before .before .before .before .before .before .args .h) (c .before .before .before .before .before .before .before .before .before .before .before .before .before .before .before .before .before .args .ext .now) (c .before .before .before .before .before .before .before .before .before .before .before .before .before .before .before .before .before .args .blk .now) (c .before .before .before .before .before .before .before .before .before .before .before .before .before .before .before .before .before .args .spare .now)) _ (c .before .before .before .before .before .before .before .before .before .lent-verdict .ensures) (c .before .before .before .before .before .before .before .enum-told .given .1) _ _ (c .before .before .before .reclaim-verdict .ensures) (reclaim-room (c .before .before .before .before .before .before .before .before .before .before .before .before .before .before .before .before .before .args .out .now) (deviceOf (lent (c .before .before .before .before .before .before .before .before .before .before .before .before .before .before .before .before .before .args .h) (c .before .before .before .before .before .before .before .before .before .before .before .before .before .before .before .before .before .args .ext .now) (c .before .before .before .before .before .before .before .before .before .before .before .before .before .before .before .before .before .args .blk .now) (c .before .before .before .before .before .before .before .before .before .before .before .before .before .before .before .before .before .args .spare .now)))) (c .before .w .given .0 .0) (c .before .w .given .1)
+returns-2 c =
+    let w = c .before .before .before in
+    let t = w .before .before .before .before .before .before in
+    let s = start t in
+    refuses (asks s) (state s) _ (t .before .before .lent-verdict .ensures) (t .enum-told .given .1) (w .reclaim-verdict .result) _ (w .reclaim-verdict .ensures)
+    (reclaim-room (s .args .out .now) (deviceOf (state s))) (c .before .w .given .0 .0) (c .before .w .given .1)
 
 enum-told-2 : tie.Need-enum-told-2
 enum-told-2 c = search needs
 
 empty-victim-requires : tie.Need-empty-victim-requires
-empty-victim-requires c κs = ready (Call.reclaim (c .before .before .before .before .before .before .before .before .before .before .before .before .before .before .before .before .before .before .before .before .args .out .now)) (lent (c .before .before .before .before .before .before .before .before .before .before .before .before .before .before .before .before .before .before .before .before .args .h) (c .before .before .before .before .before .before .before .before .before .before .before .before .before .before .before .before .before .before .before .before .args .ext .now) (c .before .before .before .before .before .before .before .before .before .before .before .before .before .before .before .before .before .before .before .before .args .blk .now) (c .before .before .before .before .before .before .before .before .before .before .before .before .before .before .before .before .before .before .before .before .args .spare .now)) _ (c .before .before .before .before .before .before .before .before .before .before .before .before .lent-verdict .ensures) (c .before .before .before .before .before .before .before .before .before .before .enum-told .given .1) _ _ (c .before .before .before .before .before .before .reclaim-verdict .ensures) (reclaim-room (c .before .before .before .before .before .before .before .before .before .before .before .before .before .before .before .before .before .before .before .before .args .out .now) (deviceOf (lent (c .before .before .before .before .before .before .before .before .before .before .before .before .before .before .before .before .before .before .before .before .args .h) (c .before .before .before .before .before .before .before .before .before .before .before .before .before .before .before .before .before .before .before .before .args .ext .now) (c .before .before .before .before .before .before .before .before .before .before .before .before .before .before .before .before .before .before .before .before .args .blk .now) (c .before .before .before .before .before .before .before .before .before .before .before .before .before .before .before .before .before .before .before .before .args .spare .now)))) (c .before .before .before .before .enum-told2 .given .1)
+empty-victim-requires c κs =
+    let w = c .before .before .before .before .before .before in
+    let v = w .before .before .before .before in
+    let t = v .before .before in
+    let s = start t in (
+      ready (asks s) (state s) _ (t .before .before .lent-verdict .ensures) (t .enum-told .given .1) (w .reclaim-verdict .result) _ (w .reclaim-verdict .ensures)
+          (reclaim-room (s .args .out .now) (deviceOf (state s))) (c .before .before .before .before .enum-told2 .given .1),
+      found v,
+    )
 
 same-length-7 : tie.Need-same-length-7
 same-length-7 c = search needs
@@ -80,6 +125,7 @@ reclaim-spec =
     same-length-3
     returns
     enum-told
+    victim-of-requires
     reclaim-verdict-requires
     enum-known-w
     same-length-4
