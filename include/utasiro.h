@@ -65,9 +65,9 @@
  *
  * What a call costs
  *   Every call but fresh tests the whole state, so it reads every lent word: 3M + 2B + B x N
- *   of them. On the largest device the calls took 1.2 to 1.5 times as long as one sum over
- *   these words with few extents in use and, with 8,192, 3.8 to 5.3 times, a reclaim 10
- *   times; that sum is of 1.1 MB (docs/BENCHMARK.md).
+ *   of them. On the largest device the calls took 1 to 1.5 times as long as one sum over
+ *   these words with few extents in use and, with 8,192, 3.6 to 5.7 times; that sum is of
+ *   1.1 MB (docs/BENCHMARK.md).
  *
  * Crashes
  *   The library keeps nothing, so what a crash leaves is what the host made durable, and in
