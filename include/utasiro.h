@@ -65,8 +65,9 @@
  *
  * What a call costs
  *   Every call but fresh tests the whole state, so it reads every lent word: 3M + 2B + B x N
- *   of them. On the largest device the calls took 1 to 1.5 times as long as one sum over
- *   these words with few extents in use and, with 8,192, 3.6 to 5.7 times; that sum is of
+ *   of them. On the largest device the calls took 1.2 to 1.4 times as long as one sum over
+ *   these words with few extents in use and, with 8,192, 3.8 to 5.3 times; a reclaim,
+ *   measured on Arm alone with the library recompiled, 1.2 and 5.7 times. That sum is of
  *   1.1 MB (docs/BENCHMARK.md).
  *
  * Crashes
