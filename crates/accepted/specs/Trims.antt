@@ -32,6 +32,7 @@ use Rattle.laws.specs.States.{device-lines, device-blocks, device-at, device-fi
 use Rattle.map.specs.Padded.{padded, Holds, Becomes, zeros-holds}
 use Rattle.map.specs.Sound.{Sound}
 use Rattle.cutting.specs.Cutting.{Cuttable}
+use Rattle.verdicts.specs.Reading.{rows-sound}
 use Rattle.blocks.specs.Lowered.{Lowered, Lowerable, total-enough}
 use Rattle.accepted.specs.Accepts.{Ready}
 
@@ -65,6 +66,9 @@ module _ (l n : ℕ) (s : Lent) (z : Cut l n s) where
   pub cut-slots : 3 * s .head .used ≤ length (s .extentWords)
   cut-slots = omega (arith, z .shape .extents, z .sane .few)
 
+  cut-sound : Sound (inUse s)
+  cut-sound = rows-sound s (z .shape) (z .sane)
+
   -- ---- the extents
 
   pub cut-extents : cut l (l + n) (inUse s) ≡ extents (holed l n s)
@@ -75,7 +79,7 @@ module _ (l n : ℕ) (s : Lent) (z : Cut l n s) where
   pub cuttable : Cuttable (s .extentWords) (s .head .used) l (l + n)
   cuttable = record {
     held = zeros-holds (s .extentWords) (s .head .used) cut-slots (z .sane .zeros);
-    sound = record { pages = s .head .pages; logical = s .head .logical; rows = z .sane .rows };
+    sound = cut-sound;
     range = omega (arith, z .some);
     room = omega (arith, ap length cut-extents, z .nodes, z .shape .extents);
   }
@@ -127,6 +131,7 @@ module _ (l n : ℕ) (s : Lent) (z : Cut l n s) where
   pub lowerable : Lowerable (s .extentWords) (s .head .used) (s .head .pages) l (l + n) (s .blockWords)
   lowerable = record {
     within = cut-slots;
+    sound = cut-sound;
     some = z .shape .sizes .n-low;
     inside = λ i p. omega (arith, z .sane .inside i p, z .shape .blocks);
     enough = λ b. by-cases (decLt b (s .head .blocks))

@@ -1,4 +1,5 @@
 // What fresh, a report, a read and a trim do once nothing refuses them.
+use map::Sides;
 use rules::Counted;
 use rules::Done;
 use rules::Head;
@@ -6,11 +7,14 @@ ghost use mathlib.Core.Path.{_≡_};
 ghost use mathlib.Core.Bool.{true};
 ghost use mathlib.Core.List.{[]};
 ghost use lib.ListN.{length};
-ghost use Rattle.rules.specs.Lent.{lent};
+ghost use Prim.Native.Nat.{_+_};
+ghost use Rattle.rules.specs.Lent.{lent, inUse};
 ghost use Rattle.rules.specs.Shape.{shape, shaped};
 ghost use Rattle.rules.specs.Sound.{sound};
 ghost use Rattle.rules.specs.Answers.{outcome, done, counted};
 ghost use Rattle.rules.specs.Calls.{Call, call, fresh};
+ghost use Rattle.map.specs.Halved.{endsBy};
+ghost use Rattle.map.specs.Around.{Beside};
 ghost use Rattle.accepted.specs.Accepts.{Ready};
 ghost use Rattle.accepted.specs.Fresh.{given};
 ghost use Rattle.accepted.specs.Reads.{ListedPieces};
@@ -52,28 +56,37 @@ pub fn count_pages(h: Head, ext: &[u32], blk: &[u32], spare: &[u32]) -> Counted
     Counted::Accepted(t.free, t.live, t.stale, h)
 }
 
-// A read that nothing refuses: how many pieces it listed.
+// A read that nothing refuses, where `first` is the first slot that ends after l: how many pieces it listed.
 pub fn list_pieces(
     h: Head,
     ext: &[u32],
     blk: &[u32],
     spare: &[u32],
+    first: usize,
     l: u32,
     n: u32,
     out: &mut [u32],
 ) -> u32
-    requires { ⌜ Ready (Call.read l n (now out)) (lent h (now ext) (now blk) (now spare)) ⌝ }
+    requires { ⌜ Ready (Call.read l n (now out)) (lent h (now ext) (now blk) (now spare)) × (first ≡ endsBy l (inUse (lent h (now ext) (now blk) (now spare)))) ⌝ }
     ensures { λ k. ⌜ ListedPieces l n (lent h (now (ext .entry)) (now (blk .entry)) (now (spare .entry))) k (now (out .entry)) (now (out .exit)) ⌝ }
 {
-    listing::list_found(ext, h.used as usize, l, l + n, out) as u32
+    listing::list_found(ext, h.used as usize, first, l, l + n, out) as u32
 }
 
-// The range becomes holes: a trim that nothing refuses, and the first part of a write. The extents in use afterwards.
-pub fn cut_range(h: Head, ext: &mut [u32], blk: &mut [u32], spare: &[u32], l: u32, n: u32) -> u32
-    requires { ⌜ Cut l n (lent h (now ext) (now blk) (now spare)) ⌝ }
+// The range, whose sides are given, becomes holes: a trim that nothing refuses, and the first part of a write. The extents in use afterwards.
+pub fn cut_range(
+    h: Head,
+    ext: &mut [u32],
+    blk: &mut [u32],
+    spare: &[u32],
+    sides: Sides,
+    l: u32,
+    n: u32,
+) -> u32
+    requires { ⌜ Cut l n (lent h (now ext) (now blk) (now spare)) × Beside l (l + n) (inUse (lent h (now ext) (now blk) (now spare))) sides ⌝ }
     ensures { λ u. ⌜ Holed l n (lent h (now (ext .entry)) (now (blk .entry)) (now (spare .entry))) u (now (ext .exit)) (now (blk .exit)) ⌝ }
 {
     let used = h.used as usize;
-    blocks::lower(ext, used, h.pages, l, l + n, blk);
-    cutting::cut_out(ext, used, l, l + n) as u32
+    blocks::lower(ext, used, sides.first, h.pages, l, l + n, blk);
+    cutting::cut_out(ext, used, sides, l, l + n) as u32
 }

@@ -15,7 +15,10 @@ use Rattle.rules.specs.Blocks.{stride, fillWord, validWord}
 use Rattle.rules.specs.Extents.{slot, slotsFrom}
 use Rattle.rules.specs.declared.Extent.{Extent}
 use Rattle.laws.specs.Bools.{cases}
-use Rattle.laws.specs.Tallies.{overlap, inRange, total, total-slots}
+use Rattle.laws.specs.Sums.{sum-zero}
+use Rattle.laws.specs.Tallies.{overlap, inRange, overlap-before, overlap-after, total, total-slots}
+use Rattle.map.specs.Sound.{Sound, sound-order, sound-piece}
+use Rattle.map.specs.Halved.{endsBy, ends-first}
 
 -- what the words of the blocks become, for N = n, without the pages of extents from l up to e
 pub record Lowered (n l e : ℕ) (es : List Extent) (blk blk′ : List ℕ) : Type 0 where
@@ -26,6 +29,7 @@ pub record Lowered (n l e : ℕ) (es : List Extent) (blk blk′ : List ℕ) : Ty
 -- each block has what is taken from it
 pub record Lowerable (ws : List ℕ) (u n l e : ℕ) (blk : List ℕ) : Type 0 where
   pub within : 3 * u ≤ length ws
+  pub sound : Sound (slotsFrom ws 0 u)
   pub some : 0 < n
   pub inside : (i : ℕ) → i < u → stride * (slot ws i .physical / n) + 1 < length blk
   pub enough : (b : ℕ) → total (inRange n b l e) (slotsFrom ws 0 u) ≤ validWord blk b
@@ -40,6 +44,9 @@ elsewhere : (n b l e : ℕ) (x : Extent) → (x .physical / n ≡ b → ⊥) →
 unfolding inRange
 elsewhere n b l e x h = rw (ne-eqb (x .physical / n) b h)
 
+nothing : (n b l e : ℕ) (x : Extent) → overlap x l e ≡ 0 → inRange n b l e x ≡ 0
+nothing n b l e x h = by-cases (ℕ-discrete (x .physical / n) b) (λ g. in-block n b l e x g ∙ h) (λ g. elsewhere n b l e x g)
+
 single : (n b l e : ℕ) (x : Extent) → total (inRange n b l e) (x ∷ []) ≡ inRange n b l e x
 unfolding total
 single n b l e x = omega arith
@@ -49,9 +56,7 @@ pub lowered-same : (n l e : ℕ) (x : Extent) (blk : List ℕ) → overlap x l e
 lowered-same n l e x blk h = record {
   size = refl;
   fills = λ b. refl;
-  valids = λ b. by-cases (ℕ-discrete (x .physical / n) b)
-      (λ g. omega (arith, single n b l e x, in-block n b l e x g))
-      (λ g. omega (arith, single n b l e x, elsewhere n b l e x g));
+  valids = λ b. omega (arith, single n b l e x, nothing n b l e x h);
 }
 
 -- as the code takes it from its block
@@ -82,9 +87,19 @@ module _ (n l e : ℕ) (ws : List ℕ) where
   up-to b i zero = let k : i ≡ i + 0 = omega arith in rw (← k) (omega arith)
   up-to b i (suc d) = let k : i + suc d ≡ i + d + 1 = omega arith in rw k (omega (arith, up-to b i d, one-more b (i + d)))
 
-  pub lowered-start : (blk : List ℕ) → Lowered n l e (slotsFrom ws 0 0) blk blk
-  unfolding total slotsFrom
-  lowered-start blk = record { size = refl; fills = λ b. refl; valids = λ b. omega arith }
+  -- the slots before the first that ends after l have nothing to lose
+  pub lowered-start : (u k : ℕ) (blk : List ℕ) → Sound (slotsFrom ws 0 u) → k ≡ endsBy l (slotsFrom ws 0 u) → Lowered n l e (slotsFrom ws 0 k) blk blk
+  lowered-start u k blk s h =
+      let f = ends-first ws u l s k h in
+      record {
+        size = refl;
+        fills = λ b. refl;
+        valids = λ b. omega (
+          arith,
+          total-slots (inRange n b l e) ws k,
+          sum-zero k (λ i. inRange n b l e (slot ws i)) (λ i t. nothing n b l e (slot ws i) (overlap-after (slot ws i) l e (f .low i t))),
+        );
+      }
 
   pub lowered-more : (i : ℕ) (blk mid blk′ : List ℕ) → Lowered n l e (slotsFrom ws 0 i) blk mid → Lowered n l e (slot ws i ∷ []) mid blk′ → Lowered n l e (slotsFrom ws 0 (i + 1)) blk blk′
   lowered-more i blk mid blk′ h g = record {
@@ -92,6 +107,33 @@ module _ (n l e : ℕ) (ws : List ℕ) where
     fills = λ b. g .fills b ∙ h .fills b;
     valids = λ b. omega (arith, h .valids b, g .valids b, one-more b i, single n b l e (slot ws i));
   }
+
+  -- slot i starts at e or later, and so do d slots behind it
+  none-more : (u i : ℕ) → Sound (slotsFrom ws 0 u) → (i < u → e ≤ slot ws i .logical) → (b d : ℕ) → i + d ≤ u
+      → total (inRange n b l e) (slotsFrom ws 0 (i + d)) ≡ total (inRange n b l e) (slotsFrom ws 0 i)
+  none-more u i s h b zero t = let k : i + 0 ≡ i = omega arith in rw k
+  none-more u i s h b (suc d) t =
+      let k : i + suc d ≡ i + d + 1 = omega arith in
+      rw k (omega (
+        arith,
+        one-more b (i + d),
+        nothing n b l e (slot ws (i + d)) (overlap-before (slot ws (i + d)) l e (later d (omega arith))),
+        none-more u i s h b d (omega arith),
+      ))
+    where
+      later : (j : ℕ) → i + j < u → e ≤ slot ws (i + j) .logical
+      later zero q = let z : i + 0 ≡ i = omega arith in rw z (h (omega arith))
+      later (suc j) q = omega (arith, h (omega arith), sound-order ws u s i (i + suc j) (omega arith) q)
+
+  pub lowered-end : (u i : ℕ) (blk blk′ : List ℕ) → Sound (slotsFrom ws 0 u) → i ≤ u → (i < u → e ≤ slot ws i .logical) → Lowered n l e (slotsFrom ws 0 i) blk blk′
+      → Lowered n l e (slotsFrom ws 0 u) blk blk′
+  lowered-end u i blk blk′ s t h g =
+      let k : i + (u - i) ≡ u = omega arith in
+      record {
+        size = g .size;
+        fills = g .fills;
+        valids = λ b. omega (arith, g .valids b, rw k at (none-more u i s h b (u - i) (omega arith)));
+      }
 
   -- its block still has what slot i takes
   pub lowered-enough : (u i : ℕ) (blk mid : List ℕ) → Lowerable ws u n l e blk → i < u → Lowered n l e (slotsFrom ws 0 i) blk mid

@@ -6,6 +6,7 @@ ghost use lib.ListN.{length};
 ghost use Rattle.rules.specs.Extents.{slot, slotsFrom};
 ghost use Rattle.rules.specs.Blocks.{stride, validWord};
 ghost use Rattle.laws.specs.Tallies.{overlap};
+ghost use Rattle.map.specs.Halved.{endsBy};
 ghost use Rattle.blocks.specs.Lowered.{Lowered, Lowerable};
 
 fn later(a: u32, b: u32) -> u32
@@ -63,13 +64,18 @@ fn lower_slot(ext: &[u32], i: usize, pages: u32, l: u32, e: u32, blk: &mut [u32]
     words::put_valid(blk, b, without(valid, gone));
 }
 
-// Each block loses the pages that extents in use have in it from l up to e.
-pub fn lower(ext: &[u32], used: usize, pages: u32, l: u32, e: u32, blk: &mut [u32])
-    requires { ⌜ Lowerable (now ext) used pages l e (now blk) ⌝ }
+// Each block loses the pages that extents in use have in it from l up to e. The first slot that ends after l is `first`; those from the
+// first that starts at e or later on have none.
+pub fn lower(ext: &[u32], used: usize, first: usize, pages: u32, l: u32, e: u32, blk: &mut [u32])
+    requires { ⌜ Lowerable (now ext) used pages l e (now blk) × (first ≡ endsBy l (slotsFrom (now ext) 0 used)) ⌝ }
     ensures { λ _. ⌜ Lowered pages l e (slotsFrom (now (ext .entry)) 0 used) (now (blk .entry)) (now (blk .exit)) ⌝ }
 {
-    let mut i: usize = 0;
+    let mut i = first;
     while i < used {
+        let at = 3 * i;
+        if e <= ext[at] {
+            return;
+        }
         lower_slot(ext, i, pages, l, e, blk);
         i += 1;
     }

@@ -1,4 +1,5 @@
 // A range cut out of the extents, in place.
+use map::Sides;
 ghost use mathlib.Core.Path.{_≡_};
 ghost use Prim.Native.Nat.{ℕ, _+_, _*_, _<_, _≤_};
 ghost use mathlib.Core.List.{_++_};
@@ -6,6 +7,7 @@ ghost use lib.ListN.{length, take, drop};
 ghost use Rattle.rules.specs.Extents.{end, slot, slotsFrom};
 ghost use Rattle.laws.specs.Cut.{cut};
 ghost use Rattle.map.specs.Sound.{Piece};
+ghost use Rattle.map.specs.Around.{Beside};
 ghost use Rattle.map.specs.Padded.{padded, Holds, Becomes};
 ghost use Rattle.map.specs.Clip.{clipRight, clipLeft, splitAt};
 ghost use Rattle.cutting.specs.Cutting.{Cuttable};
@@ -69,12 +71,11 @@ fn split(ext: &mut [u32], used: usize, i: usize, l: u32, e: u32)
     map::put(ext, used + 1, i, q, p, l - q);
 }
 
-// The extents without the logical pages from l up to e. The slots then in use are returned.
-pub fn cut_out(ext: &mut [u32], used: usize, l: u32, e: u32) -> usize
-    requires { ⌜ Cuttable (now ext) used l e ⌝ }
+// The extents without the logical pages from l up to e, whose sides are given. The slots then in use are returned.
+pub fn cut_out(ext: &mut [u32], used: usize, sides: Sides, l: u32, e: u32) -> usize
+    requires { ⌜ Cuttable (now ext) used l e × Beside l e (slotsFrom (now ext) 0 used) sides ⌝ }
     ensures { λ r. ⌜ Becomes (length (now (ext .entry))) (cut l e (slotsFrom (now (ext .entry)) 0 used)) (now (ext .exit)) r ⌝ }
 {
-    let sides = map::around(ext, used, l, e);
     let a = sides.before;
     let z = used - sides.after;
     if z < a {

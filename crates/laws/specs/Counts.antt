@@ -1,4 +1,4 @@
--- How many extents a map has after a trim or a write, in numbers that one walk over the slots finds before anything is touched.
+-- How many extents a map has after a trim or a write, in numbers that are found before anything is touched.
 use Prim.Native.Nat.{ℕ, zero, suc, _+_, _-_, _%_, _≤_, _<_}
 use mathlib.Core.Path.{_≡_, refl, sym, ap, _∙_, subst}
 use mathlib.Core.List.{List, [], _∷_, _++_}
@@ -55,12 +55,6 @@ pub tally-more : (t : Extent → Bool) (ws : List ℕ) (u : ℕ) → tally t (sl
 unfolding tally
 tally-more t ws u =
     ap (tally t) (slots-more ws 0 u u (omega arith)) ∙ tally-append t (slotsFrom ws 0 u) (slot ws u ∷ []) ∙ omega arith
-
-pub starts-more : (a : ℕ) (ws : List ℕ) (u : ℕ) → startsBefore a (slotsFrom ws 0 (u + 1)) ≡ startsBefore a (slotsFrom ws 0 u) + one (ltb (slot ws u .logical) a)
-starts-more a = tally-more (λ e. ltb (e .logical) a)
-
-pub ends-more : (b : ℕ) (ws : List ℕ) (u : ℕ) → endsAfter b (slotsFrom ws 0 (u + 1)) ≡ endsAfter b (slotsFrom ws 0 u) + one (ltb b (end (slot ws u)))
-ends-more b = tally-more (λ e. ltb b (end e))
 
 pub left-more : (n : ℕ) (f : Extent) (ws : List ℕ) (u : ℕ) → leftJoin n f (slotsFrom ws 0 (u + 1)) ≡ leftJoin n f (slotsFrom ws 0 u) + one (joinable n (slot ws u) f)
 left-more n f = tally-more (λ e. joinable n e f)

@@ -1,5 +1,5 @@
 -- Extents as words, three a slot: slots read from words, and words laid out from extents.
-use Prim.Native.Nat.{ℕ, zero, suc, _+_, _*_, _≤_, _<_}
+use Prim.Native.Nat.{ℕ, zero, suc, _+_, _-_, _*_, _≤_, _<_}
 use mathlib.Core.Path.{_≡_, refl, ap, ap₂, _∙_}
 use mathlib.Core.List.{List, [], _∷_, _++_}
 use native.Mathlib.Omega.{arith}
@@ -21,6 +21,11 @@ unfolding slotsFrom
 slots-at ws i zero j k x h e = absurd (omega arith)
 slots-at ws i (suc u) zero k x h e = let at : i ≡ k = omega arith in ap (slot ws) at
 slots-at ws i (suc u) (suc j) k x h e = slots-at ws (i + 1) u j k x (omega arith) (omega arith)
+
+-- of the slots from i up to u the first is slot i
+pub slots-first : (ws : List ℕ) (i u : ℕ) → i < u → slotsFrom ws i (u - i) ≡ slot ws i ∷ slotsFrom ws (i + 1) (u - (i + 1))
+unfolding slotsFrom
+slots-first ws i u h = let e : u - i ≡ suc (u - (i + 1)) = omega arith in ap (slotsFrom ws i) e
 
 -- one slot more stands at the end
 pub slots-more : (ws : List ℕ) (i u j : ℕ) → j ≡ i + u → slotsFrom ws i (u + 1) ≡ slotsFrom ws i u ++ slot ws j ∷ []

@@ -63,11 +63,12 @@ pub fn read(
     if let Verdict::Refused(r) = v {
         return Listed::Refused(r, h);
     }
-    let w = verdicts::read_verdict(h, ext, blk, spare, l, n, out.len());
+    let first = map::first_after(ext, h.used as usize, l as u64);
+    let w = verdicts::read_verdict(h, ext, blk, spare, first, l, n, out.len());
     if let Verdict::Refused(r) = w {
         return Listed::Refused(r, h);
     }
-    let k = accepted::list_pieces(h, ext, blk, spare, l, n, out);
+    let k = accepted::list_pieces(h, ext, blk, spare, first, l, n, out);
     Listed::Accepted(k, h)
 }
 
@@ -86,11 +87,12 @@ pub fn trim(
     if let Verdict::Refused(r) = v {
         return Done::Refused(r, h);
     }
-    let w = verdicts::trim_verdict(h, ext, blk, spare, number, l, n);
+    let sides = map::around(ext, h.used as usize, l, n);
+    let w = verdicts::trim_verdict(h, ext, blk, spare, sides, number, l, n);
     if let Verdict::Refused(r) = w {
         return Done::Refused(r, h);
     }
-    let used = accepted::cut_range(h, ext, blk, spare, l, n);
+    let used = accepted::cut_range(h, ext, blk, spare, sides, l, n);
     let mut g = h;
     g.used = used;
     g.last = number;
@@ -113,11 +115,12 @@ pub fn write(
     if let Verdict::Refused(r) = v {
         return Listed::Refused(r, h);
     }
-    let w = writable::write_verdict(h, ext, blk, spare, number, l, n, out.len());
+    let m = writable::meeting_of(h, ext, blk, spare, l, n);
+    let w = writable::write_verdict(h, ext, blk, spare, m, number, l, n, out.len());
     if let Verdict::Refused(r) = w {
         return Listed::Refused(r, h);
     }
-    writing::place_pages(h, ext, blk, spare, number, l, n, out)
+    writing::place_pages(h, ext, blk, spare, m, number, l, n, out)
 }
 
 pub fn reclaim(

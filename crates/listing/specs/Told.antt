@@ -11,6 +11,7 @@ use Rattle.rules.specs.Calls.{over}
 use Rattle.rules.specs.declared.Extent.{Extent}
 use Rattle.laws.specs.Slots.{flat-length, flat-append}
 use Rattle.map.specs.Sound.{Sound}
+use Rattle.map.specs.Halved.{endsBy}
 use Rattle.reading.specs.Walk.{between, starts, reaches, clipped, walk-start, walk-more, tells, tells-some, hole-append}
 
 -- in the buffer's slots from k on
@@ -133,8 +134,8 @@ told-end total out₀ k r rest out out′ f h g =
 abbrev pub Telling : ℕ → ℕ → List ℕ → ℕ → List ℕ → ℕ → ℕ → ℕ → List ℕ → Type 0
 Telling l e ws u out₀ i pos k out = Told (between l e (slotsFrom ws 0 u)) out₀ k (between pos e (slotsFrom ws i (u - i))) out
 
-pub telling-start : (l e : ℕ) (ws : List ℕ) (u : ℕ) (out : List ℕ) → Telling l e ws u out 0 l 0 out
-telling-start l e ws u out = told-start (between l e (slotsFrom ws 0 u)) (between l e (slotsFrom ws 0 (u - 0))) out (walk-start l e ws u)
+pub telling-start : (l e i : ℕ) (ws : List ℕ) (u : ℕ) (out : List ℕ) → Sound (slotsFrom ws 0 u) → i ≡ endsBy l (slotsFrom ws 0 u) → Telling l e ws u out i l 0 out
+telling-start l e i ws u out s h = told-start (between l e (slotsFrom ws 0 u)) (between l e (slotsFrom ws i (u - i))) out (walk-start l e i ws u s h)
 
 module _ (l e : ℕ) (ws : List ℕ) (u : ℕ) (out₀ : List ℕ) (i pos k : ℕ) (out : List ℕ) (f : 3 * length (between l e (slotsFrom ws 0 u)) ≤ length out₀)
     (h : Telling l e ws u out₀ i pos k out) where

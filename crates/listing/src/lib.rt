@@ -7,6 +7,7 @@ ghost use Rattle.rules.specs.Extents.{extent, flat, slot, slotsFrom};
 ghost use Rattle.rules.specs.Read.{withHole};
 ghost use Rattle.rules.specs.Calls.{over};
 ghost use Rattle.map.specs.Sound.{Sound, Piece};
+ghost use Rattle.map.specs.Halved.{endsBy};
 ghost use Rattle.reading.specs.Walk.{between, starts, tells};
 ghost use Rattle.listing.specs.Told.{laid, Lays};
 
@@ -59,15 +60,16 @@ fn put_slot(ext: &[u32], i: usize, pos: u32, e: u32, out: &mut [u32], k: usize) 
     j + 1
 }
 
-// What a read of the logical pages from l up to e finds, in the first words of the answer buffer: how many pieces.
-pub fn list_found(ext: &[u32], used: usize, l: u32, e: u32, out: &mut [u32]) -> usize
-    requires { ⌜ (3 * used ≤ length (now ext)) × (l ≤ e) × Sound (slotsFrom (now ext) 0 used) ⌝ }
+// What a read of the logical pages from l up to e finds, in the first words of the answer buffer, where `first` is the first slot that ends
+// after l: how many pieces.
+pub fn list_found(ext: &[u32], used: usize, first: usize, l: u32, e: u32, out: &mut [u32]) -> usize
+    requires { ⌜ (3 * used ≤ length (now ext)) × (l ≤ e) × Sound (slotsFrom (now ext) 0 used) × (first ≡ endsBy l (slotsFrom (now ext) 0 used)) ⌝ }
     requires { ⌜ 3 * length (between l e (slotsFrom (now ext) 0 used)) ≤ length (now out) ⌝ }
     ensures { λ r. ⌜ (r ≡ length (between l e (slotsFrom (now (ext .entry)) 0 used))) × (now (out .exit) ≡ over (flat (between l e (slotsFrom (now (ext .entry)) 0 used))) (now (out .entry))) ⌝ }
 {
     let mut k: usize = 0;
     let mut pos = l;
-    let mut i: usize = 0;
+    let mut i = first;
     while i < used {
         if e <= reading::start_of(ext, i, pos) {
             return put_hole(out, k, pos, e);

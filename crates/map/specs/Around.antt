@@ -1,10 +1,10 @@
--- Where a range meets the extents in use: the numbers of `Counts`, as a walk over the slots finds them, and the last extent before a slot.
+-- Where a range meets the extents in use: the numbers of `Counts`, and the last extent before a slot.
 use Prim.Native.Nat.{ℕ, zero, suc, _+_, _-_, _/_, _≤_, _<_}
 use mathlib.Core.Path.{_≡_, refl, sym, ap, _∙_}
 use mathlib.Core.Bool.{Bool, true, false, _&&_}
 use mathlib.Core.List.{List}
 use native.Mathlib.Omega.{arith}
-use borrow.Author.Tests.{lt-ltb, le-ltb, eq-eqb}
+use borrow.Author.Tests.{eq-eqb}
 use lib.Dec.{ltb, eqb}
 use Rattle.rules.specs.Counting.{one}
 use Rattle.rules.specs.Extents.{none, extent, end, joinable, slot, slotsFrom}
@@ -13,37 +13,32 @@ use Rattle.laws.specs.Bools.{never}
 use Rattle.laws.specs.Rows.{Rows}
 use Rattle.laws.specs.Runs.{joinable-true}
 use Rattle.laws.specs.Slots.{slots-at, slots-length}
-use Rattle.laws.specs.Counts.{startsBefore, endsAfter, leftJoin, tally-start, starts-more, ends-more, tally-le, left-none, left-last}
+use Rattle.laws.specs.Counts.{startsBefore, endsAfter, leftJoin, tally-le, left-none, left-last}
+use Rattle.map.specs.Halved.{endsBy, ends-both}
+use Rattle.map.specs.declared.Sides.{Sides}
 
--- ---- a walk that has counted u slots
+-- ---- where a range meets them
 
-module _ (l : ℕ) (ws : List ℕ) where
-  pub starts-start : 0 ≡ startsBefore l (slotsFrom ws 0 0)
-  starts-start = sym (tally-start (λ x. ltb (x .logical) l) ws)
+-- the logical pages from l up to e: the first slot that ends after l, how many extents start before l, and how many end after e begins
+pub record Beside (l e : ℕ) (es : List Extent) (s : Sides) : Type 0 where
+  pub first : s .first ≡ endsBy l es
+  pub before : s .before ≡ startsBefore l es
+  pub after : s .after ≡ endsAfter e es
 
-  pub ends-start : 0 ≡ endsAfter l (slotsFrom ws 0 0)
-  ends-start = sym (tally-start (λ x. ltb l (end x)) ws)
-
+module _ (l : ℕ) (ws : List ℕ) (u k : ℕ) where
   -- k of u slots
-  pub starts-le : (u k : ℕ) → k ≡ startsBefore l (slotsFrom ws 0 u) → k ≤ u
-  starts-le u k h = omega (arith, tally-le (λ x. ltb (x .logical) l) (slotsFrom ws 0 u), slots-length ws 0 u)
+  pub starts-le : k ≡ startsBefore l (slotsFrom ws 0 u) → k ≤ u
+  starts-le h = omega (arith, tally-le (λ x. ltb (x .logical) l) (slotsFrom ws 0 u), slots-length ws 0 u)
 
-  pub ends-le : (u k : ℕ) → k ≡ endsAfter l (slotsFrom ws 0 u) → k ≤ u
-  ends-le u k h = omega (arith, tally-le (λ x. ltb l (end x)) (slotsFrom ws 0 u), slots-length ws 0 u)
+  pub ends-le : k ≡ endsAfter l (slotsFrom ws 0 u) → k ≤ u
+  ends-le h = omega (arith, tally-le (λ x. ltb l (end x)) (slotsFrom ws 0 u), slots-length ws 0 u)
 
-  -- becoming j at one slot more
-  module _ (u k j : ℕ) where
-    pub starts-in : k ≡ startsBefore l (slotsFrom ws 0 u) → slot ws u .logical < l → j ≡ k + 1 → j ≡ startsBefore l (slotsFrom ws 0 (u + 1))
-    starts-in h s e = omega (arith, starts-more l ws u, ap one (lt-ltb (slot ws u .logical) l s))
-
-    pub starts-out : k ≡ startsBefore l (slotsFrom ws 0 u) → l ≤ slot ws u .logical → j ≡ k → j ≡ startsBefore l (slotsFrom ws 0 (u + 1))
-    starts-out h s e = omega (arith, starts-more l ws u, ap one (le-ltb (slot ws u .logical) l s))
-
-    pub ends-in : k ≡ endsAfter l (slotsFrom ws 0 u) → l < end (slot ws u) → j ≡ k + 1 → j ≡ endsAfter l (slotsFrom ws 0 (u + 1))
-    ends-in h s e = omega (arith, ends-more l ws u, ap one (lt-ltb l (end (slot ws u)) s))
-
-    pub ends-out : k ≡ endsAfter l (slotsFrom ws 0 u) → end (slot ws u) ≤ l → j ≡ k → j ≡ endsAfter l (slotsFrom ws 0 (u + 1))
-    ends-out h s e = omega (arith, ends-more l ws u, ap one (le-ltb l (end (slot ws u)) s))
+  -- those that do not end by l
+  pub ends-others : k ≡ endsBy l (slotsFrom ws 0 u) → (k ≤ u) × (u - k ≡ endsAfter l (slotsFrom ws 0 u))
+  ends-others h =
+      let both = ends-both l (slotsFrom ws 0 u) in
+      let size = slots-length ws 0 u in
+      (omega arith, omega arith)
 
 -- ---- the last extent before a slot
 

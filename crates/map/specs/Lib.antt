@@ -1,4 +1,5 @@
 pub mod Sound
+pub mod Halved
 pub mod Around
 pub mod Padded
 pub mod Clip

@@ -6,7 +6,7 @@ use native.Mathlib.Omega.{arith}
 use Rattle.rules.specs.Extents.{none, end, slot, slotsFrom}
 use Rattle.rules.specs.declared.Extent.{Extent}
 use Rattle.laws.specs.Rows.{Rows}
-use Rattle.laws.specs.Ranked.{Ranked, rows-ranked}
+use Rattle.laws.specs.Ranked.{Ranked, rows-ranked, rows-order}
 
 pub record Sound (es : List Extent) : Type 0 where
   pub pages : ℕ
@@ -24,6 +24,10 @@ module _ (ws : List ℕ) (u : ℕ) (s : Sound (slotsFrom ws 0 u)) where
 
   pub sound-piece : (i : ℕ) → i < u → Piece (slot ws i)
   sound-piece i h = record { some = ranked .some i h; small = ranked .small i h }
+
+  -- a slot ends before each later one begins
+  pub sound-order : (i j : ℕ) → i < j → j < u → end (slot ws i) ≤ slot ws j .logical
+  sound-order i j h t = rows-order (s .pages) (s .logical) ws u 0 0 none (s .rows) i j i j h t (omega arith) (omega arith)
 
   pub sound-rises : (i j : ℕ) → j ≡ i + 1 → j < u → end (slot ws i) ≤ slot ws j .logical
   sound-rises i j e h = let at : j ≡ suc i = omega arith in ranked .rising i j at h

@@ -5,8 +5,10 @@ ghost use Prim.Native.Nat.{_+_, _*_, _<_, _≤_, _^_};
 ghost use mathlib.Core.List.{_∷_, _++_};
 ghost use lib.ListN.{length, take, drop, set};
 ghost use Rattle.rules.specs.Extents.{extent, end, slot, slotsFrom};
-ghost use Rattle.laws.specs.Counts.{startsBefore, endsAfter};
-ghost use Rattle.map.specs.Around.{joinsBefore};
+ghost use Rattle.laws.specs.Counts.{startsBefore};
+ghost use Rattle.map.specs.Sound.{Sound};
+ghost use Rattle.map.specs.Halved.{endsBy};
+ghost use Rattle.map.specs.Around.{Beside, joinsBefore};
 ghost use Rattle.map.specs.Padded.{padded, Holds};
 
 // Where slot i ends, as a whole number.
@@ -18,30 +20,60 @@ pub fn end_of(ext: &[u32], i: usize) -> u64
     (ext[at] as u64) + (ext[at + 2] as u64)
 }
 
+// How many of the extents in use end at or below a logical page: the first slot that ends after it, found by halving the slots that are left.
+pub fn first_after(ext: &[u32], used: usize, page: u64) -> usize
+    requires { ⌜ (3 * used ≤ length (now ext)) × Sound (slotsFrom (now ext) 0 used) ⌝ }
+    ensures { λ r. ⌜ r ≡ endsBy page (slotsFrom (now (ext .entry)) 0 used) ⌝ }
+{
+    let mut first: usize = 0;
+    let mut left = used;
+    while 0 < left {
+        let half = left / 2;
+        let middle = first + half;
+        if end_of(ext, middle) <= page {
+            first = middle + 1;
+            left -= half + 1;
+        } else {
+            left = half;
+        }
+    }
+    first
+}
+
+// Where a range meets the extents in use: the first slot that ends after the range begins, how many extents start before it, and how many
+// end after it.
 pub struct Sides {
+    pub first: usize,
     pub before: usize,
     pub after: usize,
 }
 
-// How many of the extents in use start before l, and how many end after e begins.
-pub fn around(ext: &[u32], used: usize, l: u32, e: u32) -> Sides
-    requires { ⌜ 3 * used ≤ length (now ext) ⌝ }
-    ensures { λ r. ⌜ (r .before ≡ startsBefore l (slotsFrom (now (ext .entry)) 0 used)) × (r .after ≡ endsAfter e (slotsFrom (now (ext .entry)) 0 used)) ⌝ }
+// How many of the extents in use start before l: those before the first that ends after l, and that one where it does.
+fn starting_before(ext: &[u32], used: usize, first: usize, l: u32) -> usize
+    requires { ⌜ (3 * used ≤ length (now ext)) × Sound (slotsFrom (now ext) 0 used) × (first ≡ endsBy l (slotsFrom (now ext) 0 used)) ⌝ }
+    ensures { λ r. ⌜ r ≡ startsBefore l (slotsFrom (now (ext .entry)) 0 used) ⌝ }
 {
-    let mut before: usize = 0;
-    let mut after: usize = 0;
-    let mut i: usize = 0;
-    while i < used {
-        let at = 3 * i;
-        if ext[at] < l {
-            before += 1;
-        }
-        if (e as u64) < end_of(ext, i) {
-            after += 1;
-        }
-        i += 1;
+    if used <= first {
+        return first;
     }
+    let at = 3 * first;
+    if l <= ext[at] {
+        return first;
+    }
+    first + 1
+}
+
+// Where the n logical pages from l on meet the extents in use, whether there are such pages or not.
+pub fn around(ext: &[u32], used: usize, l: u32, n: u32) -> Sides
+    requires { ⌜ (3 * used ≤ length (now ext)) × Sound (slotsFrom (now ext) 0 used) ⌝ }
+    ensures { λ r. ⌜ Beside l (l + n) (slotsFrom (now (ext .entry)) 0 used) r ⌝ }
+{
+    let first = first_after(ext, used, l as u64);
+    let behind = first_after(ext, used, (l as u64) + (n as u64));
+    let before = starting_before(ext, used, first, l);
+    let after = used - behind;
     Sides {
+        first: first,
         before: before,
         after: after,
     }

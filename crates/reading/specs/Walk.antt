@@ -16,7 +16,9 @@ use Rattle.rules.specs.declared.Extent.{Extent}
 use Rattle.laws.specs.Bools.{cases}
 use Rattle.laws.specs.Unique.{extent-path}
 use Rattle.laws.specs.Cut.{below, from, below-none, below-part, below-all, from-none, from-part, from-all}
+use Rattle.laws.specs.Slots.{slots-first}
 use Rattle.map.specs.Sound.{Sound, sound-piece, sound-rises}
+use Rattle.map.specs.Halved.{endsBy, from-first}
 
 -- the extents from logical page l up to e, each clipped, and each maximal hole
 abbrev pub between : ℕ → ℕ → List Extent → List Extent
@@ -116,8 +118,8 @@ rest pos x = extent (starts pos x) (x .physical + (starts pos x - x .logical)) (
 -- what it adds, where the others begin where it ends, or later
 module _ (pos e : ℕ) (x : Extent) (xs : List Extent) (c : 0 < x .count) (p : pos ≤ e) (s : starts pos x < e)
     (keeps : pos < end x → from (reaches pos e x) xs ≡ xs) (ends : e < end x → below e xs ≡ []) where
-  from-first : pos < end x → from pos (x ∷ xs) ≡ rest pos x ∷ xs
-  from-first h =
+  from-head : pos < end x → from pos (x ∷ xs) ≡ rest pos x ∷ xs
+  from-head h =
       by-cases (decLt (x .logical) pos)
       (λ t. from-part pos x xs t h ∙ ap (λ (y : Extent). y ∷ xs) (extent-path _ (rest pos x) (omega arith) (omega arith) (omega arith)))
       (λ t. from-all pos x xs (omega arith) h ∙ ap (λ (y : Extent). y ∷ xs) (extent-path x (rest pos x) (omega arith) (omega arith) (omega arith)))
@@ -135,7 +137,7 @@ module _ (pos e : ℕ) (x : Extent) (xs : List Extent) (c : 0 < x .count) (p : p
   between-more =
       by-cases (decLt pos (end x))
       (λ h. let stop : starts pos x + (reaches pos e x - starts pos x) ≡ reaches pos e x = omega arith in
-      ap (withHoles pos e) (ap (below e) (from-first h) ∙ below-first h)
+      ap (withHoles pos e) (ap (below e) (from-head h) ∙ below-first h)
       ∙ ap (λ (k : ℕ). withHole pos (starts pos x) (clipped pos e x ∷ withHoles k e (below e xs))) stop
       ∙ ap (λ (ys : List Extent). withHole pos (starts pos x) (clipped pos e x ∷ withHoles (reaches pos e x) e (below e ys))) (sym (keeps h))
       ∙ hole-append pos (starts pos x) (clipped pos e x ∷ []) (between (reaches pos e x) e xs)
@@ -146,12 +148,6 @@ module _ (pos e : ℕ) (x : Extent) (xs : List Extent) (c : 0 < x .count) (p : p
       ∙ ap (λ (ys : List Extent). ys ++ between (reaches pos e x) e xs) (sym (tells-none pos e x (omega arith))))
 
 -- ---- the walk, over slots
-
-pub slots-first : (ws : List ℕ) (i u : ℕ) → i < u → slotsFrom ws i (u - i) ≡ slot ws i ∷ slotsFrom ws (i + 1) (u - (i + 1))
-unfolding slotsFrom
-slots-first ws i u h =
-    let e : u - i ≡ suc (u - (i + 1)) = omega arith in
-    ap (slotsFrom ws i) e
 
 from-slots : (t : ℕ) (ws : List ℕ) (j m : ℕ) → (0 < m → (t ≤ slot ws j .logical) × (0 < slot ws j .count)) → from t (slotsFrom ws j m) ≡ slotsFrom ws j m
 unfolding slotsFrom from
@@ -189,13 +185,15 @@ walk-over ws u pos e i h =
     let z : u - i ≡ 0 = omega arith in
     ap (λ (m : ℕ). between pos e (slotsFrom ws i m)) z ∙ between-none pos e
 
-pub walk-start : (l e : ℕ) (ws : List ℕ) (u : ℕ) → between l e (slotsFrom ws 0 u) ≡ between l e (slotsFrom ws 0 (u - 0))
-walk-start l e ws u = let z : u ≡ u - 0 = omega arith in ap (λ (m : ℕ). between l e (slotsFrom ws 0 m)) z
+-- a read may start at the first slot that ends after l
+pub walk-start : (l e i : ℕ) (ws : List ℕ) (u : ℕ) → Sound (slotsFrom ws 0 u) → i ≡ endsBy l (slotsFrom ws 0 u) → between l e (slotsFrom ws 0 u) ≡ between l e (slotsFrom ws i (u - i))
+walk-start l e i ws u s h = ap (λ (es : List Extent). withHoles l e (below e es)) (from-first ws u l i s h)
 
 -- ---- how many pieces it finds: k so far
 
-pub count-start : (l e : ℕ) (ws : List ℕ) (u : ℕ) → length (between l e (slotsFrom ws 0 u)) ≡ 0 + length (between l e (slotsFrom ws 0 (u - 0)))
-count-start l e ws u = ap length (walk-start l e ws u) ∙ omega arith
+pub count-start : (l e i : ℕ) (ws : List ℕ) (u : ℕ) → Sound (slotsFrom ws 0 u) → i ≡ endsBy l (slotsFrom ws 0 u)
+    → length (between l e (slotsFrom ws 0 u)) ≡ 0 + length (between l e (slotsFrom ws i (u - i)))
+count-start l e i ws u s h = ap length (walk-start l e i ws u s h) ∙ omega arith
 
 pub count-more : (ws : List ℕ) (u pos e i k j total : ℕ) → Sound (slotsFrom ws 0 u) → i < u → pos ≤ e → starts pos (slot ws i) < e
     → total ≡ k + length (between pos e (slotsFrom ws i (u - i))) → j ≡ length (tells pos e (slot ws i))

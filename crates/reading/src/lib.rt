@@ -1,4 +1,5 @@
-// What a read finds: a walk over the slots in use that counts the pieces. `listing` walks the same way and lays them into the answer buffer.
+// What a read finds: a walk over the slots that the range meets, which counts the pieces. `listing` walks the same way and lays them into
+// the answer buffer.
 ghost use mathlib.Core.Path.{_≡_};
 ghost use Prim.Native.Nat.{_+_, _*_, _<_, _≤_};
 ghost use mathlib.Core.List.{[]};
@@ -6,6 +7,7 @@ ghost use lib.ListN.{length};
 ghost use Rattle.rules.specs.Extents.{slot, slotsFrom};
 ghost use Rattle.rules.specs.Read.{withHole};
 ghost use Rattle.map.specs.Sound.{Sound};
+ghost use Rattle.map.specs.Halved.{endsBy};
 ghost use Rattle.reading.specs.Walk.{between, starts, reaches, tells};
 
 // Where the piece of slot i starts.
@@ -60,14 +62,14 @@ fn last_hole(pos: u32, e: u32) -> usize
     0
 }
 
-// How many pieces a read of the logical pages from l up to e finds.
-pub fn count_found(ext: &[u32], used: usize, l: u32, e: u32) -> usize
-    requires { ⌜ (3 * used ≤ length (now ext)) × (l ≤ e) × Sound (slotsFrom (now ext) 0 used) ⌝ }
+// How many pieces a read of the logical pages from l up to e finds, where `first` is the first slot that ends after l.
+pub fn count_found(ext: &[u32], used: usize, first: usize, l: u32, e: u32) -> usize
+    requires { ⌜ (3 * used ≤ length (now ext)) × (l ≤ e) × Sound (slotsFrom (now ext) 0 used) × (first ≡ endsBy l (slotsFrom (now ext) 0 used)) ⌝ }
     ensures { λ r. ⌜ r ≡ length (between l e (slotsFrom (now (ext .entry)) 0 used)) ⌝ }
 {
     let mut count: usize = 0;
     let mut pos = l;
-    let mut i: usize = 0;
+    let mut i = first;
     while i < used {
         if e <= start_of(ext, i, pos) {
             return count + last_hole(pos, e);

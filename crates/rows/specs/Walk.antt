@@ -17,6 +17,7 @@ use Rattle.rules.specs.Blocks.{stride}
 use Rattle.rules.specs.Extents.{none, slot, slotsFrom}
 use Rattle.laws.specs.Rows.{Rows, rows-le}
 use Rattle.laws.specs.Sane.{pagesIn}
+use Rattle.laws.specs.Slots.{slots-first}
 use Rattle.words.specs.Says.{Says, says-yes, says-no}
 use Rattle.rows.specs.Slot.{Stands, Home}
 
@@ -59,11 +60,6 @@ pub record Left (ext blk spare tally : List ℕ) (used blocks n top i lo q : ℕ
   pub small : (b : ℕ) → b < 1024 → getD tally b 0 ≤ 256 * i
 
 module _ (ext : List ℕ) (n i : ℕ) where
-  -- slot i apart from those behind it
-  slots-first : (used : ℕ) → i < used → slotsFrom ext i (used - i) ≡ slot ext i ∷ slotsFrom ext (i + 1) (used - (i + 1))
-  unfolding slotsFrom
-  slots-first used h = let e : used - i ≡ suc (used - (i + 1)) = omega arith in rw e
-
   sum-next : (f : ℕ → ℕ) → sum (i + 1) f ≡ sum i f + f i
   unfolding sum
   sum-next f = rw (add-one i)
@@ -107,7 +103,7 @@ module _ {ext blk spare tally : List ℕ} {used blocks n top i lo q : ℕ} (h : 
   -- a slot that does not stand there
   pub left-bad : i < used → (Stands n top lo q (getD ext (3 * i) 0) (getD ext (3 * i + 1) 0) (getD ext (3 * i + 2) 0) → ⊥) → Rowed ext blk spare used blocks n top → ⊥
   left-bad s g r =
-      let t = rw (slots-first ext n i used s) at (h .on (r .rows)) in
+      let t = rw (slots-first ext i used s) at (h .on (r .rows)) in
       g (record { row = t .0; ends = rows-le n top (slotsFrom ext (i + 1) (used - (i + 1))) _ _ (t .1) })
 
   module _ (s : i < used) (few : blocks ≤ 1024) (pages : n ≤ 256)
@@ -121,8 +117,8 @@ module _ {ext blk spare tally : List ℕ} {used blocks n top i lo q : ℕ} (h : 
         record {
           within = omega arith;
           low = g .ends;
-          back = λ r. h .back (rw (slots-first ext n i used s) (g .row, r));
-          on = λ r. (rw (slots-first ext n i used s) at (h .on r)) .1;
+          back = λ r. h .back (rw (slots-first ext i used s) (g .row, r));
+          on = λ r. (rw (slots-first ext i used s) at (h .on r)) .1;
           homes = below-more _ _ (h .homes) k;
           wide = length-set tally x (getD tally x 0 + getD ext (3 * i + 2) 0) ∙ h .wide;
           counts = λ b t. omega (arith, more b, h .counts b t, sum-next ext n i (pagesIn ext n b));

@@ -51,7 +51,7 @@ module _ (s : Lent) (h : Shaped s) (z : Sane s) (k l n : ℕ) where
     trim-asked r g = asked-refuses s k (outside l n (deviceOf s)) v a r _ g
 
     module _ (g : v ≡ Verdict.Accepted) where
-      pub trim-inside : (0 < n) × (l + n ≤ s .head .logical)
+      trim-inside : (0 < n) × (l + n ≤ s .head .logical)
       trim-inside = inside-words s h z l n (asked-inside s k (outside l n (deviceOf s)) v a g)
 
       pub trim-last : (i j : ℕ) (w : Verdict) → i ≡ startsBefore l (inUse s) → j ≡ endsAfter (l + n) (inUse s)

@@ -1,16 +1,19 @@
 // What a call is refused for, the first refusal that applies in the paper's order, decided over shared slices before anything is touched. A write's
 // verdict stands in `writable`, a reclaim's in `reclaimable`.
+use map::Sides;
 use rules::Head;
 use rules::Refusal;
 ghost use mathlib.Core.Path.{_≡_};
 ghost use mathlib.Core.Bool.{not, _||_};
 ghost use Prim.Native.Nat.{_+_};
 ghost use lib.Dec.{eqb, ltb};
-ghost use Rattle.rules.specs.Lent.{lent};
+ghost use Rattle.rules.specs.Lent.{lent, inUse};
 ghost use Rattle.rules.specs.Device.{deviceOf};
 ghost use Rattle.rules.specs.Answers.{refuse};
 ghost use Rattle.rules.specs.Calls.{readRefusal, trimRefusal};
 ghost use Rattle.laws.specs.Sane.{Shaped, Sane};
+ghost use Rattle.map.specs.Halved.{endsBy};
+ghost use Rattle.map.specs.Around.{Beside};
 ghost use Rattle.verdicts.specs.Refusals.{told, firstOf, lentRefusal, roomed};
 ghost use Rattle.verdicts.specs.Numbered.{numberRefusal};
 
@@ -60,21 +63,22 @@ pub fn in_range(top: u32, l: u32, n: u32) -> bool
     (l as u64) + (n as u64) <= (top as u64)
 }
 
-// 3 and 7, of a sound state. A range that is outside is not looked up.
+// 3 and 7, of a sound state, where `first` is the first slot that ends after l. A range that is outside is not read.
 pub fn read_verdict(
     h: Head,
     ext: &[u32],
     blk: &[u32],
     spare: &[u32],
+    first: usize,
     l: u32,
     n: u32,
     room: usize,
 ) -> Verdict
-    requires { ⌜ Shaped (lent h (now ext) (now blk) (now spare)) × Sane (lent h (now ext) (now blk) (now spare)) ⌝ }
+    requires { ⌜ Shaped (lent h (now ext) (now blk) (now spare)) × Sane (lent h (now ext) (now blk) (now spare)) × (first ≡ endsBy l (inUse (lent h (now ext) (now blk) (now spare)))) ⌝ }
     ensures { λ v. ⌜ told v ≡ readRefusal l n (roomed room) (deviceOf (lent h (now (ext .entry)) (now (blk .entry)) (now (spare .entry)))) ⌝ }
 {
     let inside = in_range(h.logical, l, n);
-    let fits = inside && reading::count_found(ext, h.used as usize, l, l + n) <= room / 3;
+    let fits = inside && reading::count_found(ext, h.used as usize, first, l, l + n) <= room / 3;
     let range = unless(inside, Refusal::Range);
     let short = unless(fits, Refusal::OutShort);
     first_of(range, short)
@@ -90,17 +94,18 @@ pub fn number_verdict(h: Head, number: u64) -> Verdict
     Verdict::Accepted
 }
 
-// 3, 4 and 6 of a trim, of a sound state.
+// 3, 4 and 6 of a trim, of a sound state, where the range has these sides.
 pub fn trim_verdict(
     h: Head,
     ext: &[u32],
     blk: &[u32],
     spare: &[u32],
+    sides: Sides,
     number: u64,
     l: u32,
     n: u32,
 ) -> Verdict
-    requires { ⌜ Shaped (lent h (now ext) (now blk) (now spare)) × Sane (lent h (now ext) (now blk) (now spare)) ⌝ }
+    requires { ⌜ Shaped (lent h (now ext) (now blk) (now spare)) × Sane (lent h (now ext) (now blk) (now spare)) × Beside l (l + n) (inUse (lent h (now ext) (now blk) (now spare))) sides ⌝ }
     ensures { λ v. ⌜ told v ≡ trimRefusal number l n (deviceOf (lent h (now (ext .entry)) (now (blk .entry)) (now (spare .entry)))) ⌝ }
 {
     let range = unless(in_range(h.logical, l, n), Refusal::Range);
@@ -109,7 +114,6 @@ pub fn trim_verdict(
     if let Verdict::Refused(r) = asked {
         return Verdict::Refused(r);
     }
-    let sides = map::around(ext, h.used as usize, l, l + n);
     let fits = sides.before + sides.after <= h.slots as usize;
     unless(fits, Refusal::NoNodes)
 }

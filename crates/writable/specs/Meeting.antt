@@ -21,7 +21,7 @@ use Rattle.laws.specs.Spread.{firstPage, spread}
 use Rattle.laws.specs.States.{device-lines, device-blocks, extents-in-use, sane-good}
 use Rattle.laws.specs.Runs.{runs-length}
 use Rattle.laws.specs.Placed.{length-placed}
-use Rattle.map.specs.Around.{joinsBefore, joins-before}
+use Rattle.map.specs.Around.{Beside, joinsBefore, joins-before}
 use Rattle.targets.specs.Bare.{fillsOf}
 use Rattle.targets.specs.Bare.{bare-device, pieces-on, first-on}
 use Rattle.verdicts.specs.Trimming.{few-around}
@@ -47,9 +47,8 @@ abbrev pub nodesOf : ℕ → ℕ → Lent → ℕ
 nodesOf l n s = length (extents (puts l n (deviceOf s)))
 
 pub record Meets (l n : ℕ) (s : Lent) (m : Meeting) : Type 0 where
-  pub before : m .before ≡ startsBefore l (inUse s)
-  pub after : m .after ≡ endsAfter (l + n) (inUse s)
-  pub joined : one (m .joined) ≡ leftJoin (s .head .pages) (extent l (firstOf (deviceOf s)) 1) (inUse s)
+  pub sides : Beside l (l + n) (inUse s) (m .sides)
+  pub joined : Writable l n s → one (m .joined) ≡ leftJoin (s .head .pages) (extent l (firstOf (deviceOf s)) 1) (inUse s)
 
 place-first : (l n : ℕ) (d : Device) → 0 < n → getD (places l n d) 0 none ≡ firstOf d
 unfolding places placesAt targets
@@ -59,22 +58,6 @@ place-first l (suc n) d h = refl
 module _ (l n : ℕ) (s : Lent) (z : Writable l n s) where
   abbrev d : Device
   d = deviceOf s
-
-  pub write-line : l + n ≤ 262144
-  write-line = omega (arith, z .inside, lines-pages (z .shape .sizes), pages-high (z .shape .sizes))
-
-  pub write-slots : 3 * s .head .used ≤ length (s .extentWords)
-  write-slots = omega (arith, z .shape .extents, z .sane .few)
-
-  pub write-before : (b : ℕ) → b ≡ startsBefore l (inUse s) → 3 * b ≤ length (s .extentWords)
-  write-before b e =
-      omega (
-        arith,
-        e,
-        tally-le (λ x. ltb (x .logical) l) (inUse s),
-        Rattle.laws.specs.Slots.slots-length (s .extentWords) 0 (s .head .used),
-        write-slots,
-      )
 
   pages-in : length (deviceOf s .fills) * deviceOf s .pages ≤ none
   pages-in = sane-good s (z .shape) (z .sane) .sound .words
@@ -111,7 +94,7 @@ module _ (l n : ℕ) (s : Lent) (z : Writable l n s) where
   pages-same = refl
 
   -- before + after + pieces, less one for a join
-  pub grows : (m : Meeting) → Meets l n s m → nodesOf l n s + one (m .joined) ≡ m .before + m .after + piecesOf l n s
+  pub grows : (m : Meeting) → Meets l n s m → nodesOf l n s + one (m .joined) ≡ m .sides .before + m .sides .after + piecesOf l n s
   grows m e =
       let g = write-grows l n (deviceOf s) (sane-good s (z .shape) (z .sane) .sound) (z .some) (z .enough) (omega (arith, z .inside, device-lines s)) in
       let es = extents-in-use s (z .shape) (z .sane) in
@@ -123,24 +106,14 @@ module _ (l n : ℕ) (s : Lent) (z : Writable l n s) where
         j,
         ap (startsBefore l) es,
         ap (endsAfter (l + n)) es,
-        e .before,
-        e .after,
-        e .joined,
+        e .sides .before,
+        e .sides .after,
+        e .joined z,
       )
 
-  pub few-meet : (m : Meeting) → Meets l n s m → m .before + m .after ≤ 16384
-  few-meet m e = omega (arith, e .before, e .after, few-around s (z .shape) (z .sane) l (l + n))
+  -- what a count of the extents afterwards comes to
+  pub nodes-are : (m : Meeting) (k r : ℕ) → Meets l n s m → k ≡ piecesOf l n s → r + one (m .joined) ≡ m .sides .before + m .sides .after + k → r ≡ nodesOf l n s
+  nodes-are m k r e f g = omega (arith, grows m e)
 
-  one-true : (t : Bool) → t ≡ true → one t ≡ 1
-  one-true true e = refl
-  one-true false e = absurd (mathlib.Core.Bool.false≢true e)
-
-  one-false : (t : Bool) → t ≡ false → one t ≡ 0
-  one-false true e = absurd (mathlib.Core.Bool.true≢false e)
-  one-false false e = refl
-
-  pub nodes-joined : (m : Meeting) (k : ℕ) → Meets l n s m → k ≡ piecesOf l n s → m .joined ≡ true → (1 ≤ m .before + m .after + k) × (m .before + m .after + k - 1 ≡ nodesOf l n s)
-  nodes-joined m k e f t = (omega (arith, grows m e, one-true (m .joined) t), omega (arith, grows m e, one-true (m .joined) t))
-
-  pub nodes-apart : (m : Meeting) (k : ℕ) → Meets l n s m → k ≡ piecesOf l n s → m .joined ≡ false → m .before + m .after + k ≡ nodesOf l n s
-  nodes-apart m k e f t = omega (arith, grows m e, one-false (m .joined) t)
+pub few-meet : (l n : ℕ) (s : Lent) → Shaped s → Sane s → (m : Meeting) → Meets l n s m → m .sides .before + m .sides .after ≤ 16384
+few-meet l n s h z m e = omega (arith, e .sides .before, e .sides .after, few-around s h z l (l + n))

@@ -82,8 +82,8 @@ module _ (k l n : ℕ) (out : List ℕ) (s : Lent) (z : Ready (Call.write k l n 
         arith,
         trim-nodes s (z .shape) (z .sane) 0 l n (z .taken .range .some) inside,
         grows l n s writes m e,
-        e .before,
-        e .after,
+        e .sides .before,
+        e .sides .after,
         some-pieces,
         one-le (m .joined),
         z .taken .nodes,
@@ -92,9 +92,9 @@ module _ (k l n : ℕ) (out : List ℕ) (s : Lent) (z : Ready (Call.write k l n 
     }
 
     module _ (u : ℕ) (ext blk : List ℕ) (w : Holed l n s u ext blk) where
-      held-used : u ≡ m .before + m .after
+      held-used : u ≡ m .sides .before + m .sides .after
       held-used =
-          w .map .used ∙ cut-length (s .head .pages) (s .head .logical) l (l + n) (inUse s) (z .sane .rows) ∙ omega (arith, e .before, e .after)
+          w .map .used ∙ cut-length (s .head .pages) (s .head .logical) l (l + n) (inUse s) (z .sane .rows) ∙ omega (arith, e .sides .before, e .sides .after)
 
       ext-length : length ext ≡ length (s .extentWords)
       ext-length =
@@ -196,37 +196,37 @@ module _ (k l n : ℕ) (out : List ℕ) (s : Lent) (z : Ready (Call.write k l n 
             (unfold deviceOf in piece-rows l n (deviceOf s) (good .sound) (z .taken .range .some) (z .taken .pages) (z .taken .range .inside))) in
             omega (arith, rows-ranked (s .head .pages) (l + n) out′ r rows .inside 0 (omega (arith, placed .many, some-pieces)), z .shape .sizes .n-high)
 
-        joins-some : m .joined ≡ true → 1 ≤ m .before
-        joins-some t = go (m .before) refl
+        joins-some : m .joined ≡ true → 1 ≤ m .sides .before
+        joins-some t = go (m .sides .before) refl
           where
-            go : (b : ℕ) → m .before ≡ b → 1 ≤ m .before
+            go : (b : ℕ) → m .sides .before ≡ b → 1 ≤ m .sides .before
             go zero f =
                 absurd (omega (
                   arith,
-                  e .joined,
+                  e .joined writes,
                   ap one t,
-                  left-none (s .head .pages) (s .head .logical) l (extent l (firstOf (deviceOf s)) 1) (inUse s) 0 none (z .sane .rows) refl (sym (e .before) ∙ f),
+                  left-none (s .head .pages) (s .head .logical) l (extent l (firstOf (deviceOf s)) 1) (inUse s) 0 none (z .sane .rows) refl (sym (e .sides .before) ∙ f),
                 ))
             go (suc b) f = omega arith
 
-        pub puttable : Puttable ext u (m .before) (m .joined) out′ r
+        pub puttable : Puttable ext u (m .sides .before) (m .joined) out′ r
         puttable = record {
           held = became-holds (length (s .extentWords)) (cut l (l + n) (inUse s)) ext u (w .map .is) (sym (w .map .used)) small;
           within = omega (arith, held-used);
           some = omega (arith, placed .many, some-pieces);
           fits = out-length;
           room = omega (arith, held-used, placed .many, grows l n s writes m e, z .taken .nodes, slots-same, ext-length, z .shape .extents);
-          joins = λ t. let a = joins-some t in (a, omega (arith, short (m .before - 1) (omega (arith, held-used)), short-piece));
+          joins = λ t. let a = joins-some t in (a, omega (arith, short (m .sides .before - 1) (omega (arith, held-used)), short-piece));
         }
 
-        module _ (ext′ : List ℕ) (v : ℕ) (q : Becomes (length ext) (putIn (m .before) (m .joined) (slotsFrom out′ 0 r) (slotsFrom ext 0 u)) ext′ v) where
-          after : putIn (m .before) (m .joined) (slotsFrom out′ 0 r) (slotsFrom ext 0 u) ≡ extents (puts l n (deviceOf s))
+        module _ (ext′ : List ℕ) (v : ℕ) (q : Becomes (length ext) (putIn (m .sides .before) (m .joined) (slotsFrom out′ 0 r) (slotsFrom ext 0 u)) ext′ v) where
+          after : putIn (m .sides .before) (m .joined) (slotsFrom out′ 0 r) (slotsFrom ext 0 u) ≡ extents (puts l n (deviceOf s))
           after =
               let es = extents-in-use s (z .shape) (z .sane) in
-              ap₂ (λ (ps cs : List Extent). putIn (m .before) (m .joined) ps cs) listed (cut-slots ∙ ap (cut l (l + n)) (sym es))
-              ∙ put-extents l n (deviceOf s) (good .sound) (z .taken .range .some) (z .taken .pages) (z .taken .range .inside) (m .before) (m .joined)
-              (e .before ∙ ap (startsBefore l) (sym es))
-              (e .joined ∙ (unfold deviceOf in ap (leftJoin (s .head .pages) (extent l (firstOf (deviceOf s)) 1)) (sym es)))
+              ap₂ (λ (ps cs : List Extent). putIn (m .sides .before) (m .joined) ps cs) listed (cut-slots ∙ ap (cut l (l + n)) (sym es))
+              ∙ put-extents l n (deviceOf s) (good .sound) (z .taken .range .some) (z .taken .pages) (z .taken .range .inside) (m .sides .before) (m .joined)
+              (e .sides .before ∙ ap (startsBefore l) (sym es))
+              (e .joined writes ∙ (unfold deviceOf in ap (leftJoin (s .head .pages) (extent l (firstOf (deviceOf s)) 1)) (sym es)))
 
           -- ---- all of it
 

@@ -1,41 +1,53 @@
-//! `bench` prints the tables of docs/BENCHMARK.md; `bench calls` and `bench map`
-//! print one of them, `bench quick` tries both on small devices.
+//! `bench` prints the tables of docs/BENCHMARK.md; `bench calls`, `bench growth` and
+//! `bench map` print one of them, `bench quick` tries all on little.
 
 use std::process::ExitCode;
 
-use bench::{calls, map};
+use bench::{calls, growth, map};
 
 fn main() -> ExitCode {
     let arguments: Vec<String> = std::env::args().skip(1).collect();
     let words: Vec<&str> = arguments.iter().map(String::as_str).collect();
     match words[..] {
         [] => {
-            print_calls(&calls::SAMPLES);
-            print_map(false);
+            warn_of_emulation();
+            print(calls::table(&calls::SAMPLES));
+            print(growth::table(&growth::SAMPLES));
+            print(map::table(false));
         }
-        ["calls"] => print_calls(&calls::SAMPLES),
-        ["map"] => print_map(false),
+        ["calls"] => {
+            warn_of_emulation();
+            print(calls::table(&calls::SAMPLES));
+        }
+        ["growth"] => {
+            warn_of_emulation();
+            print(growth::table(&growth::SAMPLES));
+        }
+        ["map"] => print(map::table(false)),
         ["quick"] => {
-            print_calls(&calls::SAMPLES[..2]);
-            print_map(true);
+            warn_of_emulation();
+            print(calls::table(&calls::SAMPLES[..2]));
+            print(growth::table(&growth::SAMPLES[..1]));
+            print(map::table(true));
         }
         _ => {
-            eprintln!("usage: bench [calls | map | quick]");
+            eprintln!("usage: bench [calls | growth | map | quick]");
             return ExitCode::from(2);
         }
     }
     ExitCode::SUCCESS
 }
 
-fn print_calls(samples: &[calls::Sample]) {
+/// Says so where the times mean nothing: the library is compiled for x86-64.
+fn warn_of_emulation() {
     if std::env::consts::ARCH != "x86_64" {
         println!("This machine is no x86-64, for which the library is compiled: the times below mean");
         println!("something only if UTASIRO_LIB_DIR was the folder that host/native/make prints.\n");
     }
-    calls::table(samples).iter().for_each(|line| println!("{line}"));
-    println!();
 }
 
-fn print_map(quick: bool) {
-    map::table(quick).iter().for_each(|line| println!("{line}"));
+/// A table, and an empty line behind it.
+fn print(table: Vec<String>) {
+    table.iter().for_each(|line| println!("{line}"));
+    println!();
 }

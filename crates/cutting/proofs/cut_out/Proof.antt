@@ -5,22 +5,17 @@ use borrow.Author.Needs.{needs}
 use Rattle.cutting.proofs.cut_out.Statement.{statement}
 use Rattle.cutting.proofs.cut_out.Tie as tie
 
-around-requires : tie.Need-around-requires
-around-requires c κs = search needs
-
 sub-z : tie.Need-sub-z
 sub-z c =
-    let s = c .before .before .before .before in
+    let s = c .before .before in
     let a = s .args in
-    let r = c .before .around in
-    omega (arith, after-le (a .ext .now) (a .used) (a .l) (a .e) _ _ (s .pre) (r .ensures .0) (r .ensures .1))
+    after-le (a .ext .now) (a .used) (a .l) (a .e) _ _ (s .pre .0) (s .pre .1 .before) (s .pre .1 .after)
 
 split-requires : tie.Need-split-requires
 split-requires c κs =
-    let s = c .before .before .before .before .before .before in
+    let s = c .before .before .before .before in
     let a = s .args in
-    let r = c .before .before .before .around in
-    split-ready (a .ext .now) (a .used) (a .l) (a .e) _ _ (s .pre) (r .ensures .0) (r .ensures .1) (omega arith)
+    split-ready (a .ext .now) (a .used) (a .l) (a .e) _ _ (s .pre .0) (s .pre .1 .before) (s .pre .1 .after) (omega arith)
 
 add-result : tie.Need-add-result
 add-result c = search needs
@@ -30,31 +25,29 @@ same-length c = search needs
 
 returns : tie.Need-returns
 returns c =
-    let s = c .before .before .before .before .before .before .before .before .before in
+    let s = c .before .before .before .before .before .before .before in
     let a = s .args in
-    let r = c .before .before .before .before .before .before .around in
-    split-done (a .ext .now) (a .used) (a .l) (a .e) _ _ (s .pre) (r .ensures .0) (r .ensures .1) (omega arith) _ (c .before .before .split .ensures)
+    split-done (a .ext .now) (a .used) (a .l) (a .e) _ _ (s .pre .0) (s .pre .1 .before) (s .pre .1 .after) (omega arith) _ (c .before .before .split .ensures)
 
 clip-right-requires : tie.Need-clip-right-requires
 clip-right-requires c κs =
-    let s = c .before .before .before .before .before .before in
+    let s = c .before .before .before .before in
     let a = s .args in
-    let r = c .before .before .before .around in
-    right-ready (a .ext .now) (a .used) (a .l) (a .e) _ _ (s .pre) (r .ensures .0) (r .ensures .1) (omega arith)
+    right-ready (a .ext .now) (a .used) (a .l) (a .e) _ _ (s .pre .0) (s .pre .1 .before) (s .pre .1 .after) (omega arith)
 
 clip-left-requires : tie.Need-clip-left-requires
 clip-left-requires c κs =
-    let s = c .before .before .before .before .before .before .before .before .before .before in
+    let s = c .before .before .before .before .before .before .before .before in
     let a = s .args in
-    let r = c .before .before .before .before .before .before .before .around in
-    left-ready (a .ext .now) (a .used) (a .l) (a .e) _ _ (s .pre) (r .ensures .0) (r .ensures .1) (omega arith) _ (c .before .before .before .clip-right .ensures)
+    left-ready (a .ext .now) (a .used) (a .l) (a .e) _ _ (s .pre .0) (s .pre .1 .before) (s .pre .1 .after)
+    (omega arith) _ (c .before .before .before .clip-right .ensures)
 
 close-requires : tie.Need-close-requires
 close-requires c κs =
-    let s = c .before .before .before .before .before .before .before .before .before .before .before .before .before .before in
+    let s = c .before .before .before .before .before .before .before .before .before .before .before .before in
     let a = s .args in
-    let r = c .before .before .before .before .before .before .before .before .before .before .before .around in
-    close-ready (a .ext .now) (a .used) (a .l) (a .e) _ _ (s .pre) (r .ensures .0) (r .ensures .1) (omega arith) _ (c .before .before .before .before .before .before .before .clip-right .ensures) _ (c .before .before .before .clip-left .ensures)
+    close-ready (a .ext .now) (a .used) (a .l) (a .e) _ _ (s .pre .0) (s .pre .1 .before) (s .pre .1 .after)
+    (omega arith) _ (c .before .before .before .before .before .before .before .clip-right .ensures) _ (c .before .before .before .clip-left .ensures)
 
 add-result-2 : tie.Need-add-result-2
 add-result-2 c = search needs
@@ -64,17 +57,16 @@ same-length-2 c = search needs
 
 returns-2 : tie.Need-returns-2
 returns-2 c =
-    let s = c .before .before .before .before .before .before .before .before .before .before .before .before .before .before .before .before .before .before in
+    let s = c .before .before .before .before .before .before .before .before .before .before .before .before .before .before .before .before in
     let a = s .args in
-    let r = c .before .before .before .before .before .before .before .before .before .before .before .before .before .before .before .around in
-    cut-done (a .ext .now) (a .used) (a .l) (a .e) _ _ (s .pre) (r .ensures .0) (r .ensures .1) (omega arith) _ (c .before .before .before .before .before .before .before .before .before .before .before .clip-right .ensures) _ (c .before .before .before .before .before .before .before .clip-left .ensures)
-    _ (c .before .before .before .close .ensures)
+    cut-done (a .ext .now) (a .used) (a .l) (a .e) _ _ (s .pre .0) (s .pre .1 .before) (s .pre .1 .after)
+    (omega arith) _ (c .before .before .before .before .before .before .before .before .before .before .before .clip-right .ensures)
+    _ (c .before .before .before .before .before .before .before .clip-left .ensures) _ (c .before .before .before .close .ensures)
 
 pub cut-out-spec : {M : Type 1} → statement M
 cut-out-spec =
     tie.close
     (tie.spec
-    around-requires
     sub-z
     split-requires
     add-result

@@ -1,13 +1,42 @@
 use borrow.Author.Needs.{needs}
+use mathlib.Core.Path.{_≡_}
 use mathlib.Core.List.{[]}
-use Rattle.rules.specs.Lent.{lent}
+use native.Mathlib.Omega.{arith}
+use Rattle.rules.specs.Lent.{Lent, lent}
 use Rattle.rules.specs.Device.{deviceOf}
 use Rattle.rules.specs.Calls.{Call, refused}
+use Rattle.laws.specs.Sane.{Shaped, Sane}
 use Rattle.verdicts.specs.Refusals.{lent-refuses}
-use Rattle.accepted.specs.Accepts.{trim-refusal, ready-shape, ready-sane, ready, refuses, accepts}
+use Rattle.verdicts.specs.Reading.{rows-sound}
+use Rattle.accepted.specs.Accepts.{Ready, trim-refusal, ready-shape, ready-sane, ready, refuses, accepts}
 use Rattle.accepted.specs.Trims.{trim-cut, trim-leaves, trim-counts, trim-lists}
+use Rattle.verdicts.specs.declared.Verdict.{Verdict}
 use Rattle.layer.proofs.trim.Statement.{statement}
 use Rattle.layer.proofs.trim.Tie as tie
+
+abbrev asks : tie.Start → Call
+asks s = Call.trim (s .args .number) (s .args .l) (s .args .n)
+
+abbrev state : tie.Start → Lent
+state s = lent (s .args .h) (s .args .ext .now) (s .args .blk .now) (s .args .spare .now)
+
+-- where the first verdict has accepted
+abbrev start : tie.After-enum-told → tie.Start
+start t = t .before .before .before .before .before .before .before .before
+
+shape : (t : tie.After-enum-told) → Shaped (state (start t))
+shape t = ready-shape (asks (start t)) (state (start t)) _ (t .before .before .lent-verdict .ensures) (t .enum-told .given .1)
+
+sane : (t : tie.After-enum-told) → Sane (state (start t))
+sane t = ready-sane (asks (start t)) (state (start t)) _ (t .before .before .lent-verdict .ensures) (t .enum-told .given .1)
+
+-- and the second
+accepted : (w : tie.After-trim-verdict) → w .trim-verdict .result ≡ Verdict.Accepted → let s = start (w .before .before .before .before .before .before) in Ready (asks s) (state s)
+accepted w e =
+    let t = w .before .before .before .before .before .before in
+    let s = start t in
+    ready (asks s) (state s) _ (t .before .before .lent-verdict .ensures) (t .enum-told .given .1) (w .trim-verdict .result) _ (w .trim-verdict .ensures)
+    (trim-refusal (s .args .number) (s .args .l) (s .args .n) (deviceOf (state s))) e
 
 lent-verdict-requires : tie.Need-lent-verdict-requires
 lent-verdict-requires c κs = search needs
@@ -23,13 +52,26 @@ same-length-2 c = search needs
 
 returns : tie.Need-returns
 unfolding refused
-returns c = lent-refuses (Call.trim (c .before .before .before .before .before .before .before .before .before .args .number) (c .before .before .before .before .before .before .before .before .before .args .l) (c .before .before .before .before .before .before .before .before .before .args .n)) (lent (c .before .before .before .before .before .before .before .before .before .args .h) (c .before .before .before .before .before .before .before .before .before .args .ext .now) (c .before .before .before .before .before .before .before .before .before .args .blk .now) (c .before .before .before .before .before .before .before .before .before .args .spare .now)) _ (c .before .v .given .0 .0) (c .before .before .before .lent-verdict .ensures) (c .before .v .given .1)
+returns c =
+    let s = c .before .before .before .before .before .before .before .before .before in
+    lent-refuses (asks s) (state s) _ (c .before .v .given .0 .0) (c .before .before .before .lent-verdict .ensures) (c .before .v .given .1)
 
 enum-told : tie.Need-enum-told
 enum-told c = search needs
 
+cast-around : tie.Need-cast-around
+cast-around c = search needs
+
+around-requires : tie.Need-around-requires
+around-requires c κs =
+    let t = c .before .before in
+    (omega (arith, shape t .extents, sane t .few), rows-sound (state (start t)) (shape t) (sane t))
+
 trim-verdict-requires : tie.Need-trim-verdict-requires
-trim-verdict-requires c κs = (ready-shape (Call.trim (c .before .before .before .before .before .before .before .before .before .before .args .number) (c .before .before .before .before .before .before .before .before .before .before .args .l) (c .before .before .before .before .before .before .before .before .before .before .args .n)) (lent (c .before .before .before .before .before .before .before .before .before .before .args .h) (c .before .before .before .before .before .before .before .before .before .before .args .ext .now) (c .before .before .before .before .before .before .before .before .before .before .args .blk .now) (c .before .before .before .before .before .before .before .before .before .before .args .spare .now)) _ (c .before .before .before .before .lent-verdict .ensures) (c .before .before .enum-told .given .1), ready-sane (Call.trim (c .before .before .before .before .before .before .before .before .before .before .args .number) (c .before .before .before .before .before .before .before .before .before .before .args .l) (c .before .before .before .before .before .before .before .before .before .before .args .n)) (lent (c .before .before .before .before .before .before .before .before .before .before .args .h) (c .before .before .before .before .before .before .before .before .before .before .args .ext .now) (c .before .before .before .before .before .before .before .before .before .before .args .blk .now) (c .before .before .before .before .before .before .before .before .before .before .args .spare .now)) _ (c .before .before .before .before .lent-verdict .ensures) (c .before .before .enum-told .given .1))
+trim-verdict-requires c κs =
+    let a = c .before .before in
+    let t = a .before .before .before in
+    (shape t, sane t, a .around .ensures)
 
 enum-known-w : tie.Need-enum-known-w
 enum-known-w c = search needs
@@ -42,13 +84,22 @@ same-length-4 c = search needs
 
 returns-2 : tie.Need-returns-2
 unfolding refused
-returns-2 c = refuses (Call.trim (c .before .before .before .before .before .before .before .before .before .before .before .before .before .before .args .number) (c .before .before .before .before .before .before .before .before .before .before .before .before .before .before .args .l) (c .before .before .before .before .before .before .before .before .before .before .before .before .before .before .args .n)) (lent (c .before .before .before .before .before .before .before .before .before .before .before .before .before .before .args .h) (c .before .before .before .before .before .before .before .before .before .before .before .before .before .before .args .ext .now) (c .before .before .before .before .before .before .before .before .before .before .before .before .before .before .args .blk .now) (c .before .before .before .before .before .before .before .before .before .before .before .before .before .before .args .spare .now)) _ (c .before .before .before .before .before .before .before .before .lent-verdict .ensures) (c .before .before .before .before .before .before .enum-told .given .1) _ _ (c .before .before .before .trim-verdict .ensures) (trim-refusal (c .before .before .before .before .before .before .before .before .before .before .before .before .before .before .args .number) (c .before .before .before .before .before .before .before .before .before .before .before .before .before .before .args .l) (c .before .before .before .before .before .before .before .before .before .before .before .before .before .before .args .n) (deviceOf (lent (c .before .before .before .before .before .before .before .before .before .before .before .before .before .before .args .h) (c .before .before .before .before .before .before .before .before .before .before .before .before .before .before .args .ext .now) (c .before .before .before .before .before .before .before .before .before .before .before .before .before .before .args .blk .now) (c .before .before .before .before .before .before .before .before .before .before .before .before .before .before .args .spare .now)))) (c .before .w .given .0 .0) (c .before .w .given .1)
+returns-2 c =
+    let w = c .before .before .before in
+    let t = w .before .before .before .before .before .before in
+    let s = start t in
+    refuses (asks s) (state s) _ (t .before .before .lent-verdict .ensures) (t .enum-told .given .1) (w .trim-verdict .result) _ (w .trim-verdict .ensures)
+    (trim-refusal (s .args .number) (s .args .l) (s .args .n) (deviceOf (state s))) (c .before .w .given .0 .0) (c .before .w .given .1)
 
 enum-told-2 : tie.Need-enum-told-2
 enum-told-2 c = search needs
 
 cut-range-requires : tie.Need-cut-range-requires
-cut-range-requires c κs = trim-cut (c .before .before .before .before .before .before .before .before .before .before .before .before .before .before .before .args .number) (c .before .before .before .before .before .before .before .before .before .before .before .before .before .before .before .args .l) (c .before .before .before .before .before .before .before .before .before .before .before .before .before .before .before .args .n) (lent (c .before .before .before .before .before .before .before .before .before .before .before .before .before .before .before .args .h) (c .before .before .before .before .before .before .before .before .before .before .before .before .before .before .before .args .ext .now) (c .before .before .before .before .before .before .before .before .before .before .before .before .before .before .before .args .blk .now) (c .before .before .before .before .before .before .before .before .before .before .before .before .before .before .before .args .spare .now)) (ready (Call.trim (c .before .before .before .before .before .before .before .before .before .before .before .before .before .before .before .args .number) (c .before .before .before .before .before .before .before .before .before .before .before .before .before .before .before .args .l) (c .before .before .before .before .before .before .before .before .before .before .before .before .before .before .before .args .n)) (lent (c .before .before .before .before .before .before .before .before .before .before .before .before .before .before .before .args .h) (c .before .before .before .before .before .before .before .before .before .before .before .before .before .before .before .args .ext .now) (c .before .before .before .before .before .before .before .before .before .before .before .before .before .before .before .args .blk .now) (c .before .before .before .before .before .before .before .before .before .before .before .before .before .before .before .args .spare .now)) _ (c .before .before .before .before .before .before .before .before .before .lent-verdict .ensures) (c .before .before .before .before .before .before .before .enum-told .given .1) _ _ (c .before .before .before .before .trim-verdict .ensures) (trim-refusal (c .before .before .before .before .before .before .before .before .before .before .before .before .before .before .before .args .number) (c .before .before .before .before .before .before .before .before .before .before .before .before .before .before .before .args .l) (c .before .before .before .before .before .before .before .before .before .before .before .before .before .before .before .args .n) (deviceOf (lent (c .before .before .before .before .before .before .before .before .before .before .before .before .before .before .before .args .h) (c .before .before .before .before .before .before .before .before .before .before .before .before .before .before .before .args .ext .now) (c .before .before .before .before .before .before .before .before .before .before .before .before .before .before .before .args .blk .now) (c .before .before .before .before .before .before .before .before .before .before .before .before .before .before .before .args .spare .now)))) (c .before .before .enum-told2 .given .1))
+cut-range-requires c κs =
+    let w = c .before .before .before .before in
+    let s = start (w .before .before .before .before .before .before) in
+    let z = accepted w (c .before .before .enum-told2 .given .1) in
+    (trim-cut (s .args .number) (s .args .l) (s .args .n) (state s) z, w .before .before .before .around .ensures)
 
 same-length-5 : tie.Need-same-length-5
 same-length-5 c = search needs
@@ -58,8 +109,14 @@ same-length-6 c = search needs
 
 returns-3 : tie.Need-returns-3
 returns-3 c =
-    let z = ready (Call.trim (c .before .before .before .before .before .before .before .before .before .before .before .before .before .before .before .before .before .before .before .before .args .number) (c .before .before .before .before .before .before .before .before .before .before .before .before .before .before .before .before .before .before .before .before .args .l) (c .before .before .before .before .before .before .before .before .before .before .before .before .before .before .before .before .before .before .before .before .args .n)) (lent (c .before .before .before .before .before .before .before .before .before .before .before .before .before .before .before .before .before .before .before .before .args .h) (c .before .before .before .before .before .before .before .before .before .before .before .before .before .before .before .before .before .before .before .before .args .ext .now) (c .before .before .before .before .before .before .before .before .before .before .before .before .before .before .before .before .before .before .before .before .args .blk .now) (c .before .before .before .before .before .before .before .before .before .before .before .before .before .before .before .before .before .before .before .before .args .spare .now)) _ (c .before .before .before .before .before .before .before .before .before .before .before .before .before .before .lent-verdict .ensures) (c .before .before .before .before .before .before .before .before .before .before .before .before .enum-told .given .1) _ _ (c .before .before .before .before .before .before .before .before .before .trim-verdict .ensures) (trim-refusal (c .before .before .before .before .before .before .before .before .before .before .before .before .before .before .before .before .before .before .before .before .args .number) (c .before .before .before .before .before .before .before .before .before .before .before .before .before .before .before .before .before .before .before .before .args .l) (c .before .before .before .before .before .before .before .before .before .before .before .before .before .before .before .before .before .before .before .before .args .n) (deviceOf (lent (c .before .before .before .before .before .before .before .before .before .before .before .before .before .before .before .before .before .before .before .before .args .h) (c .before .before .before .before .before .before .before .before .before .before .before .before .before .before .before .before .before .before .before .before .args .ext .now) (c .before .before .before .before .before .before .before .before .before .before .before .before .before .before .before .before .before .before .before .before .args .blk .now) (c .before .before .before .before .before .before .before .before .before .before .before .before .before .before .before .before .before .before .before .before .args .spare .now)))) (c .before .before .before .before .before .before .before .enum-told2 .given .1) in
-    accepts (Call.trim (c .before .before .before .before .before .before .before .before .before .before .before .before .before .before .before .before .before .before .before .before .args .number) (c .before .before .before .before .before .before .before .before .before .before .before .before .before .before .before .before .before .before .before .before .args .l) (c .before .before .before .before .before .before .before .before .before .before .before .before .before .before .before .before .before .before .before .before .args .n)) (lent (c .before .before .before .before .before .before .before .before .before .before .before .before .before .before .before .before .before .before .before .before .args .h) (c .before .before .before .before .before .before .before .before .before .before .before .before .before .before .before .before .before .before .before .before .args .ext .now) (c .before .before .before .before .before .before .before .before .before .before .before .before .before .before .before .before .before .before .before .before .args .blk .now) (c .before .before .before .before .before .before .before .before .before .before .before .before .before .before .before .before .before .before .before .before .args .spare .now)) z [] [] _ (trim-counts (c .before .before .before .before .before .before .before .before .before .before .before .before .before .before .before .before .before .before .before .before .args .number) (c .before .before .before .before .before .before .before .before .before .before .before .before .before .before .before .before .before .before .before .before .args .l) (c .before .before .before .before .before .before .before .before .before .before .before .before .before .before .before .before .before .before .before .before .args .n) (lent (c .before .before .before .before .before .before .before .before .before .before .before .before .before .before .before .before .before .before .before .before .args .h) (c .before .before .before .before .before .before .before .before .before .before .before .before .before .before .before .before .before .before .before .before .args .ext .now) (c .before .before .before .before .before .before .before .before .before .before .before .before .before .before .before .before .before .before .before .before .args .blk .now) (c .before .before .before .before .before .before .before .before .before .before .before .before .before .before .before .before .before .before .before .before .args .spare .now)) z) (trim-leaves (c .before .before .before .before .before .before .before .before .before .before .before .before .before .before .before .before .before .before .before .before .args .number) (c .before .before .before .before .before .before .before .before .before .before .before .before .before .before .before .before .before .before .before .before .args .l) (c .before .before .before .before .before .before .before .before .before .before .before .before .before .before .before .before .before .before .before .before .args .n) (lent (c .before .before .before .before .before .before .before .before .before .before .before .before .before .before .before .before .before .before .before .before .args .h) (c .before .before .before .before .before .before .before .before .before .before .before .before .before .before .before .before .before .before .before .before .args .ext .now) (c .before .before .before .before .before .before .before .before .before .before .before .before .before .before .before .before .before .before .before .before .args .blk .now) (c .before .before .before .before .before .before .before .before .before .before .before .before .before .before .before .before .before .before .before .before .args .spare .now)) z _ _ _ (c .before .before .before .before .cut-range .ensures)) (trim-lists (c .before .before .before .before .before .before .before .before .before .before .before .before .before .before .before .before .before .before .before .before .args .number) (c .before .before .before .before .before .before .before .before .before .before .before .before .before .before .before .before .before .before .before .before .args .l) (c .before .before .before .before .before .before .before .before .before .before .before .before .before .before .before .before .before .before .before .before .args .n) (lent (c .before .before .before .before .before .before .before .before .before .before .before .before .before .before .before .before .before .before .before .before .args .h) (c .before .before .before .before .before .before .before .before .before .before .before .before .before .before .before .before .before .before .before .before .args .ext .now) (c .before .before .before .before .before .before .before .before .before .before .before .before .before .before .before .before .before .before .before .before .args .blk .now) (c .before .before .before .before .before .before .before .before .before .before .before .before .before .before .before .before .before .before .before .before .args .spare .now)) z)
+    let w = c .before .before .before .before .before .before .before .before .before in
+    let s = start (w .before .before .before .before .before .before) in
+    let a = s .args in
+    let z = accepted w (c .before .before .before .before .before .before .before .enum-told2 .given .1) in
+    accepts (asks s) (state s) z [] [] _
+    (trim-counts (a .number) (a .l) (a .n) (state s) z)
+    (trim-leaves (a .number) (a .l) (a .n) (state s) z _ _ _ (c .before .before .before .before .cut-range .ensures))
+    (trim-lists (a .number) (a .l) (a .n) (state s) z)
 
 pub trim-spec : {M : Type 1} → statement M
 trim-spec =
@@ -71,6 +128,8 @@ trim-spec =
     same-length-2
     returns
     enum-told
+    cast-around
+    around-requires
     trim-verdict-requires
     enum-known-w
     same-length-3

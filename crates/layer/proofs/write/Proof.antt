@@ -1,11 +1,28 @@
 use borrow.Author.Needs.{needs}
-use Rattle.rules.specs.Lent.{lent}
+use Rattle.rules.specs.Lent.{Lent, lent}
 use Rattle.rules.specs.Device.{deviceOf}
 use Rattle.rules.specs.Calls.{Call, refused}
+use Rattle.laws.specs.Sane.{Shaped, Sane}
 use Rattle.verdicts.specs.Refusals.{lent-refuses}
 use Rattle.accepted.specs.Accepts.{write-room, ready-shape, ready-sane, ready, refuses}
 use Rattle.layer.proofs.write.Statement.{statement}
 use Rattle.layer.proofs.write.Tie as tie
+
+abbrev asks : tie.Start → Call
+asks s = Call.write (s .args .number) (s .args .l) (s .args .n) (s .args .out .now)
+
+abbrev state : tie.Start → Lent
+state s = lent (s .args .h) (s .args .ext .now) (s .args .blk .now) (s .args .spare .now)
+
+-- where the first verdict has accepted
+abbrev start : tie.After-enum-told → tie.Start
+start t = t .before .before .before .before .before .before .before .before .before .before
+
+shape : (t : tie.After-enum-told) → Shaped (state (start t))
+shape t = ready-shape (asks (start t)) (state (start t)) _ (t .before .before .lent-verdict .ensures) (t .enum-told .given .1)
+
+sane : (t : tie.After-enum-told) → Sane (state (start t))
+sane t = ready-sane (asks (start t)) (state (start t)) _ (t .before .before .lent-verdict .ensures) (t .enum-told .given .1)
 
 lent-verdict-requires : tie.Need-lent-verdict-requires
 lent-verdict-requires c κs = search needs
@@ -24,13 +41,23 @@ same-length-3 c = search needs
 
 returns : tie.Need-returns
 unfolding refused
-returns c = lent-refuses (Call.write (c .before .before .before .before .before .before .before .before .before .before .before .args .number) (c .before .before .before .before .before .before .before .before .before .before .before .args .l) (c .before .before .before .before .before .before .before .before .before .before .before .args .n) (c .before .before .before .before .before .before .before .before .before .before .before .args .out .now)) (lent (c .before .before .before .before .before .before .before .before .before .before .before .args .h) (c .before .before .before .before .before .before .before .before .before .before .before .args .ext .now) (c .before .before .before .before .before .before .before .before .before .before .before .args .blk .now) (c .before .before .before .before .before .before .before .before .before .before .before .args .spare .now)) _ (c .before .v .given .0 .0) (c .before .before .before .lent-verdict .ensures) (c .before .v .given .1)
+returns c =
+    let s = c .before .before .before .before .before .before .before .before .before .before .before in
+    lent-refuses (asks s) (state s) _ (c .before .v .given .0 .0) (c .before .before .before .lent-verdict .ensures) (c .before .v .given .1)
 
 enum-told : tie.Need-enum-told
 enum-told c = search needs
 
+meeting-of-requires : tie.Need-meeting-of-requires
+meeting-of-requires c κs =
+    let t = c .before .before .before in
+    (shape t, sane t)
+
 write-verdict-requires : tie.Need-write-verdict-requires
-write-verdict-requires c κs = (ready-shape (Call.write (c .before .before .before .before .before .before .before .before .before .before .before .before .before .args .number) (c .before .before .before .before .before .before .before .before .before .before .before .before .before .args .l) (c .before .before .before .before .before .before .before .before .before .before .before .before .before .args .n) (c .before .before .before .before .before .before .before .before .before .before .before .before .before .args .out .now)) (lent (c .before .before .before .before .before .before .before .before .before .before .before .before .before .args .h) (c .before .before .before .before .before .before .before .before .before .before .before .before .before .args .ext .now) (c .before .before .before .before .before .before .before .before .before .before .before .before .before .args .blk .now) (c .before .before .before .before .before .before .before .before .before .before .before .before .before .args .spare .now)) _ (c .before .before .before .before .before .lent-verdict .ensures) (c .before .before .before .enum-told .given .1), ready-sane (Call.write (c .before .before .before .before .before .before .before .before .before .before .before .before .before .args .number) (c .before .before .before .before .before .before .before .before .before .before .before .before .before .args .l) (c .before .before .before .before .before .before .before .before .before .before .before .before .before .args .n) (c .before .before .before .before .before .before .before .before .before .before .before .before .before .args .out .now)) (lent (c .before .before .before .before .before .before .before .before .before .before .before .before .before .args .h) (c .before .before .before .before .before .before .before .before .before .before .before .before .before .args .ext .now) (c .before .before .before .before .before .before .before .before .before .before .before .before .before .args .blk .now) (c .before .before .before .before .before .before .before .before .before .before .before .before .before .args .spare .now)) _ (c .before .before .before .before .before .lent-verdict .ensures) (c .before .before .before .enum-told .given .1))
+write-verdict-requires c κs =
+    let m = c .before .before .before in
+    let t = m .before .before .before .before in
+    (shape t, sane t, m .meeting-of .ensures)
 
 enum-known-w : tie.Need-enum-known-w
 enum-known-w c = search needs
@@ -46,13 +73,26 @@ same-length-6 c = search needs
 
 returns-2 : tie.Need-returns-2
 unfolding refused
-returns-2 c = refuses (Call.write (c .before .before .before .before .before .before .before .before .before .before .before .before .before .before .before .before .before .args .number) (c .before .before .before .before .before .before .before .before .before .before .before .before .before .before .before .before .before .args .l) (c .before .before .before .before .before .before .before .before .before .before .before .before .before .before .before .before .before .args .n) (c .before .before .before .before .before .before .before .before .before .before .before .before .before .before .before .before .before .args .out .now)) (lent (c .before .before .before .before .before .before .before .before .before .before .before .before .before .before .before .before .before .args .h) (c .before .before .before .before .before .before .before .before .before .before .before .before .before .before .before .before .before .args .ext .now) (c .before .before .before .before .before .before .before .before .before .before .before .before .before .before .before .before .before .args .blk .now) (c .before .before .before .before .before .before .before .before .before .before .before .before .before .before .before .before .before .args .spare .now)) _ (c .before .before .before .before .before .before .before .before .before .lent-verdict .ensures) (c .before .before .before .before .before .before .before .enum-told .given .1) _ _ (c .before .before .before .write-verdict .ensures) (write-room (c .before .before .before .before .before .before .before .before .before .before .before .before .before .before .before .before .before .args .number) (c .before .before .before .before .before .before .before .before .before .before .before .before .before .before .before .before .before .args .l) (c .before .before .before .before .before .before .before .before .before .before .before .before .before .before .before .before .before .args .n) (c .before .before .before .before .before .before .before .before .before .before .before .before .before .before .before .before .before .args .out .now) (deviceOf (lent (c .before .before .before .before .before .before .before .before .before .before .before .before .before .before .before .before .before .args .h) (c .before .before .before .before .before .before .before .before .before .before .before .before .before .before .before .before .before .args .ext .now) (c .before .before .before .before .before .before .before .before .before .before .before .before .before .before .before .before .before .args .blk .now) (c .before .before .before .before .before .before .before .before .before .before .before .before .before .before .before .before .before .args .spare .now)))) (c .before .w .given .0 .0) (c .before .w .given .1)
+returns-2 c =
+    let w = c .before .before .before in
+    let t = w .before .before .before .before .before .before .before .before in
+    let s = start t in
+    refuses (asks s) (state s) _ (t .before .before .lent-verdict .ensures) (t .enum-told .given .1) (w .write-verdict .result) _ (w .write-verdict .ensures)
+    (write-room (s .args .number) (s .args .l) (s .args .n) (s .args .out .now) (deviceOf (state s))) (c .before .w .given .0 .0) (c .before .w .given .1)
 
 enum-told-2 : tie.Need-enum-told-2
 enum-told-2 c = search needs
 
 place-pages-requires : tie.Need-place-pages-requires
-place-pages-requires c κs = ready (Call.write (c .before .before .before .before .before .before .before .before .before .before .before .before .before .before .before .before .before .before .before .before .args .number) (c .before .before .before .before .before .before .before .before .before .before .before .before .before .before .before .before .before .before .before .before .args .l) (c .before .before .before .before .before .before .before .before .before .before .before .before .before .before .before .before .before .before .before .before .args .n) (c .before .before .before .before .before .before .before .before .before .before .before .before .before .before .before .before .before .before .before .before .args .out .now)) (lent (c .before .before .before .before .before .before .before .before .before .before .before .before .before .before .before .before .before .before .before .before .args .h) (c .before .before .before .before .before .before .before .before .before .before .before .before .before .before .before .before .before .before .before .before .args .ext .now) (c .before .before .before .before .before .before .before .before .before .before .before .before .before .before .before .before .before .before .before .before .args .blk .now) (c .before .before .before .before .before .before .before .before .before .before .before .before .before .before .before .before .before .before .before .before .args .spare .now)) _ (c .before .before .before .before .before .before .before .before .before .before .before .before .lent-verdict .ensures) (c .before .before .before .before .before .before .before .before .before .before .enum-told .given .1) _ _ (c .before .before .before .before .before .before .write-verdict .ensures) (write-room (c .before .before .before .before .before .before .before .before .before .before .before .before .before .before .before .before .before .before .before .before .args .number) (c .before .before .before .before .before .before .before .before .before .before .before .before .before .before .before .before .before .before .before .before .args .l) (c .before .before .before .before .before .before .before .before .before .before .before .before .before .before .before .before .before .before .before .before .args .n) (c .before .before .before .before .before .before .before .before .before .before .before .before .before .before .before .before .before .before .before .before .args .out .now) (deviceOf (lent (c .before .before .before .before .before .before .before .before .before .before .before .before .before .before .before .before .before .before .before .before .args .h) (c .before .before .before .before .before .before .before .before .before .before .before .before .before .before .before .before .before .before .before .before .args .ext .now) (c .before .before .before .before .before .before .before .before .before .before .before .before .before .before .before .before .before .before .before .before .args .blk .now) (c .before .before .before .before .before .before .before .before .before .before .before .before .before .before .before .before .before .before .before .before .args .spare .now)))) (c .before .before .before .before .enum-told2 .given .1)
+place-pages-requires c κs =
+    let w = c .before .before .before .before .before .before in
+    let m = w .before .before .before .before in
+    let t = m .before .before .before .before in
+    let s = start t in (
+      ready (asks s) (state s) _ (t .before .before .lent-verdict .ensures) (t .enum-told .given .1) (w .write-verdict .result) _ (w .write-verdict .ensures)
+          (write-room (s .args .number) (s .args .l) (s .args .n) (s .args .out .now) (deviceOf (state s))) (c .before .before .before .before .enum-told2 .given .1),
+      m .meeting-of .ensures,
+    )
 
 same-length-7 : tie.Need-same-length-7
 same-length-7 c = search needs
@@ -67,7 +107,7 @@ same-length-10 : tie.Need-same-length-10
 same-length-10 c = search needs
 
 returns-3 : tie.Need-returns-3
-returns-3 c = c .before .before .before .before .before .before .before .before .place-pages .ensures
+returns-3 c = search needs
 
 pub write-spec : {M : Type 1} → statement M
 write-spec =
@@ -80,6 +120,7 @@ write-spec =
     same-length-3
     returns
     enum-told
+    meeting-of-requires
     write-verdict-requires
     enum-known-w
     same-length-4

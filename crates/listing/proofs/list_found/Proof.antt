@@ -3,6 +3,7 @@ use Prim.Native.Nat.{_-_, _≤_}
 use mathlib.Core.Path.{_≡_, refl}
 use lib.ListN.{length}
 use Rattle.map.specs.Sound.{sound-piece}
+use Rattle.map.specs.Halved.{first-le}
 use Rattle.reading.specs.Walk.{walk-end, walk-over}
 use Rattle.listing.specs.Told.{Telling, telling-start, telling-room, telling-end, telling-fits, telling-more}
 use borrow.Author.Needs.{needs}
@@ -11,13 +12,21 @@ use Rattle.listing.proofs.list_found.Statement.{statement}
 use Rattle.listing.proofs.list_found.Tie as tie
 
 abbrev Inv-loop : tie.InvT-loop
-Inv-loop ext used l e out₀ k₀ pos₀ i₀ out k pos i = (i ≤ used) × (pos ≤ e) × (length out ≡ length out₀) × Telling l e ext used out₀ i pos k out
+Inv-loop ext used first l e out₀ k₀ pos₀ i₀ out k pos i = (i ≤ used) × (pos ≤ e) × (length out ≡ length out₀) × Telling l e ext used out₀ i pos k out
 
 abbrev μ-loop : tie.MeasureT-loop
-μ-loop ext used l e out₀ k₀ pos₀ i₀ out k pos i = used - i
+μ-loop ext used first l e out₀ k₀ pos₀ i₀ out k pos i = used - i
 
 loop-holds : tie.Need-loop-holds Inv-loop μ-loop
-loop-holds c = (search needs, search needs, refl, telling-start _ _ _ _ _)
+loop-holds c =
+    let s = c .before .before in
+    let a = s .args in
+    let p = s .pre .0 in (
+      first-le (a .ext .now) (a .used) (a .l) (p .2) (a .first) (p .3),
+      search needs,
+      refl,
+      telling-start (a .l) (a .e) (a .first) (a .ext .now) (a .used) (a .out .now) (p .2) (p .3),
+    )
 
 start-of-requires : tie.Need-start-of-requires Inv-loop μ-loop
 start-of-requires c κs = search needs

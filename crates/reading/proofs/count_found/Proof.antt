@@ -1,24 +1,31 @@
-use Rattle.reading.specs.Walk.{count-end, hole-le}
 -- The walk: what is counted and what is still to come are the whole.
 use Prim.Native.Nat.{_+_, _-_, _*_, _≤_}
 use mathlib.Core.Path.{_≡_}
 use lib.ListN.{length}
 use Rattle.rules.specs.Extents.{slotsFrom, slot}
-use Rattle.reading.specs.Walk.{between, reaches, tells-le, count-start, count-more, walk-end, walk-over}
+use Rattle.map.specs.Halved.{first-le}
+use Rattle.reading.specs.Walk.{between, reaches, tells-le, count-start, count-more, count-end, hole-le, walk-end, walk-over}
 use borrow.Author.Needs.{needs}
 use native.Mathlib.Omega.{arith}
 use Rattle.reading.proofs.count_found.Statement.{statement}
 use Rattle.reading.proofs.count_found.Tie as tie
 
 abbrev Inv-loop : tie.InvT-loop
-Inv-loop ext used l e count₀ pos₀ i₀ count pos i =
+Inv-loop ext used first l e count₀ pos₀ i₀ count pos i =
     (i ≤ used) × (pos ≤ e) × (count ≤ 2 * i) × (length (between l e (slotsFrom ext 0 used)) ≡ count + length (between pos e (slotsFrom ext i (used - i))))
 
 abbrev μ-loop : tie.MeasureT-loop
-μ-loop ext used l e count₀ pos₀ i₀ count pos i = used - i
+μ-loop ext used first l e count₀ pos₀ i₀ count pos i = used - i
 
 loop-holds : tie.Need-loop-holds Inv-loop μ-loop
-loop-holds c = (search needs, search needs, search needs, count-start _ _ _ _)
+loop-holds c =
+    let s = c .before in
+    let a = s .args in (
+      first-le (a .ext .now) (a .used) (a .l) (s .pre .2) (a .first) (s .pre .3),
+      search needs,
+      search needs,
+      count-start (a .l) (a .e) (a .first) (a .ext .now) (a .used) (s .pre .2) (s .pre .3),
+    )
 
 start-of-requires : tie.Need-start-of-requires Inv-loop μ-loop
 start-of-requires c κs = search needs

@@ -41,7 +41,7 @@ add-count-found c =
 count-found-requires : tie.Need-count-found-requires
 count-found-requires c κs =
     let s = c .before .before .before .before .before .before in
-    (omega (arith, s .pre .0 .extents, s .pre .1 .few), omega arith, rows-sound (state s) (s .pre .0) (s .pre .1))
+    (omega (arith, s .pre .0 .extents, s .pre .1 .few), omega arith, rows-sound (state s) (s .pre .0) (s .pre .1), s .pre .2)
 
 unless-requires : tie.Need-unless-requires
 unless-requires c κs = search needs

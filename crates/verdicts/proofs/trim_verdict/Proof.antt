@@ -8,10 +8,9 @@ use Rattle.rules.specs.Device.{deviceOf}
 use Rattle.rules.specs.Answers.{refuse}
 use Rattle.rules.specs.Calls.{outside}
 use Rattle.rules.specs.declared.Refusal.{Refusal}
-use Rattle.laws.specs.Shapes.{lines-pages, pages-high}
 use Rattle.verdicts.specs.Numbered.{Asked}
 use Rattle.verdicts.specs.Reading.{is-outside}
-use Rattle.verdicts.specs.Trimming.{trim-asked, trim-inside, trim-last, few-around}
+use Rattle.verdicts.specs.Trimming.{trim-asked, trim-last, few-around}
 use Rattle.verdicts.proofs.trim_verdict.Statement.{statement}
 use Rattle.verdicts.proofs.trim_verdict.Tie as tie
 
@@ -61,23 +60,10 @@ returns c =
 enum-told : tie.Need-enum-told
 enum-told c = search needs
 
-cast-around : tie.Need-cast-around
-cast-around c = search needs
-
-add-around : tie.Need-add-around
-add-around c =
-    let f = c .before .before .before in
-    let s = start f in
-    let r = trim-inside (state s) (s .pre .0) (s .pre .1) (s .args .number) (s .args .l) (s .args .n) _ (asked f) (c .before .enum-told .given .1) in
-    omega (arith, r .1, lines-pages (s .pre .0 .sizes), pages-high (s .pre .0 .sizes))
-
-around-requires : tie.Need-around-requires
-around-requires c κs = let s = start (c .before .before .before) in omega (arith, s .pre .0 .extents, s .pre .1 .few)
-
 add-fits : tie.Need-add-fits
 add-fits c =
-    let s = start (c .before .before .before .before .before) in
-    omega (arith, few-around (state s) (s .pre .0) (s .pre .1) (s .args .l) (s .args .l + s .args .n), c .before .around .ensures)
+    let s = start (c .before .before .before) in
+    omega (arith, few-around (state s) (s .pre .0) (s .pre .1) (s .args .l) (s .args .l + s .args .n), s .pre .2 .before, s .pre .2 .after)
 
 cast-fits : tie.Need-cast-fits
 cast-fits c = search needs
@@ -87,12 +73,11 @@ unless-requires-2 c κs = search needs
 
 returns-2 : tie.Need-returns-2
 returns-2 c =
-    let around = c .before .before .before in
-    let told = around .before .before in
+    let told = c .before .before .before in
     let f = told .before .before in
     let s = start f in
     trim-last (state s) (s .pre .0) (s .pre .1) (s .args .number) (s .args .l) (s .args .n) _ (asked f) (told .enum-told .given .1)
-    (around .around .result .before) (around .around .result .after) (c .unless2 .result) (around .around .ensures .0) (around .around .ensures .1) (c .unless2 .ensures)
+    (s .args .sides .before) (s .args .sides .after) (c .unless2 .result) (s .pre .2 .before) (s .pre .2 .after) (c .unless2 .ensures)
 
 pub trim-verdict-spec : {M : Type 1} → statement M
 trim-verdict-spec =
@@ -105,9 +90,6 @@ trim-verdict-spec =
     enum-known-asked
     returns
     enum-told
-    cast-around
-    add-around
-    around-requires
     add-fits
     cast-fits
     unless-requires-2

@@ -11,7 +11,7 @@ use Rattle.rules.specs.Answers.{refuse}
 use Rattle.rules.specs.declared.Refusal.{Refusal}
 use Rattle.counts.specs.Totals.{sane-filled, device-free}
 use Rattle.verdicts.specs.Numbered.{Asked}
-use Rattle.writable.specs.Meeting.{pieces-are}
+use Rattle.writable.specs.Meeting.{pieces-are, grows, few-meet, nodes-are}
 use Rattle.writable.specs.Writing.{outOrLong, is-out-or-long, write-asked, write-pages, writable, write-last}
 use Rattle.writable.proofs.write_verdict.Statement.{statement}
 use Rattle.writable.proofs.write_verdict.Tie as tie
@@ -94,7 +94,9 @@ nodes-after-requires c κs =
     let s = start f in
     let w = writable (state s) (s .pre .0) (s .pre .1) (s .args .number) (s .args .l) (s .args .n) (s .args .room) _ (asked f) (told .enum-told .given .1)
     (omega (arith, device-free (state s) (s .pre .0) (s .pre .1), totals .totals-of .ensures .free)) in
-    (w, pieces-are (s .args .l) (s .args .n) (state s) w _ (c .pieces-of .ensures (s .args .l)))
+    let many = grows (s .args .l) (s .args .n) (state s) w (s .args .m) (s .pre .2) in
+    let k = pieces-are (s .args .l) (s .args .n) (state s) w _ (c .pieces-of .ensures (s .args .l)) in
+    (few-meet (s .args .l) (s .args .n) (state s) (s .pre .0) (s .pre .1) (s .args .m) (s .pre .2), omega arith)
 
 cast-fits : tie.Need-cast-fits
 cast-fits c = search needs
@@ -122,10 +124,11 @@ returns-3 c =
     let s = start f in
     let enough : s .args .n ≤ free (deviceOf (state s)) = omega (arith, device-free (state s) (s .pre .0) (s .pre .1), totals .totals-of .ensures .free) in
     let w = writable (state s) (s .pre .0) (s .pre .1) (s .args .number) (s .args .l) (s .args .n) (s .args .room) _ (asked f) (told .enum-told .given .1) enough in
+    let k = pieces-are (s .args .l) (s .args .n) (state s) w _ (pieces .pieces-of .ensures (s .args .l)) in
     c .first-of2 .ensures
     ∙ write-last (state s) (s .pre .0) (s .pre .1) (s .args .number) (s .args .l) (s .args .n) (s .args .room) _ (asked f) (told .enum-told .given .1) enough
     (nodes .nodes-after .result) (pieces .pieces-of .result) (many .unless2 .result) (c .before .unless3 .result)
-    (nodes .nodes-after .ensures) (pieces-are (s .args .l) (s .args .n) (state s) w _ (pieces .pieces-of .ensures (s .args .l)))
+    (nodes-are (s .args .l) (s .args .n) (state s) w (s .args .m) _ _ (s .pre .2) k (nodes .nodes-after .ensures)) k
     (many .unless2 .ensures) (c .before .unless3 .ensures)
 
 pub write-verdict-spec : {M : Type 1} → statement M

@@ -1,21 +1,31 @@
 use borrow.Author.Needs.{needs}
-use mathlib.Core.List.{[], _∷_}
 use native.Mathlib.Omega.{arith}
-use Rattle.rules.specs.Lent.{lent}
+use Rattle.rules.specs.Lent.{Lent, lent}
 use Rattle.rules.specs.Calls.{Call}
 use Rattle.accepted.specs.Accepts.{accepts}
-use Rattle.writing.specs.Writes.{writes, write-cut, placeable, puttable, write-leaves, write-counts, write-lists, write-few}
+use Rattle.writing.specs.Writes.{write-cut, placeable, puttable, write-leaves, write-counts, write-lists, write-few}
 use Rattle.writing.proofs.place_pages.Statement.{statement}
 use Rattle.writing.proofs.place_pages.Tie as tie
 
-meeting-of-requires : tie.Need-meeting-of-requires
-meeting-of-requires c κs = writes (c .before .before .before .before .before .before .before .args .number) (c .before .before .before .before .before .before .before .args .l) (c .before .before .before .before .before .before .before .args .n) (c .before .before .before .before .before .before .before .args .out .now) (lent (c .before .before .before .before .before .before .before .args .h) (c .before .before .before .before .before .before .before .args .ext .now) (c .before .before .before .before .before .before .before .args .blk .now) (c .before .before .before .before .before .before .before .args .spare .now)) (c .before .before .before .before .before .before .before .pre)
+abbrev state : tie.Start → Lent
+state s = lent (s .args .h) (s .args .ext .now) (s .args .blk .now) (s .args .spare .now)
+
+-- where the range is cut out
+abbrev start : tie.After-cut-range → tie.Start
+start w = w .before .before .before .before .before .before .before .before .before
 
 cut-range-requires : tie.Need-cut-range-requires
-cut-range-requires c κs = write-cut (c .before .before .before .before .before .before .before .before .before .before .before .args .number) (c .before .before .before .before .before .before .before .before .before .before .before .args .l) (c .before .before .before .before .before .before .before .before .before .before .before .args .n) (c .before .before .before .before .before .before .before .before .before .before .before .args .out .now) (lent (c .before .before .before .before .before .before .before .before .before .before .before .args .h) (c .before .before .before .before .before .before .before .before .before .before .before .args .ext .now) (c .before .before .before .before .before .before .before .before .before .before .before .args .blk .now) (c .before .before .before .before .before .before .before .before .before .before .before .args .spare .now)) (c .before .before .before .before .before .before .before .before .before .before .before .pre) _ (c .before .before .before .meeting-of .ensures)
+cut-range-requires c κs =
+    let s = c .before .before .before .before .before .before .before .before in
+    let a = s .args in
+    (write-cut (a .number) (a .l) (a .n) (a .out .now) (state s) (s .pre .0) (a .m) (s .pre .1), s .pre .1 .sides)
 
 place-requires : tie.Need-place-requires
-place-requires c κs = placeable (c .before .before .before .before .before .before .before .before .before .before .before .before .before .before .before .before .before .before .before .args .number) (c .before .before .before .before .before .before .before .before .before .before .before .before .before .before .before .before .before .before .before .args .l) (c .before .before .before .before .before .before .before .before .before .before .before .before .before .before .before .before .before .before .before .args .n) (c .before .before .before .before .before .before .before .before .before .before .before .before .before .before .before .before .before .before .before .args .out .now) (lent (c .before .before .before .before .before .before .before .before .before .before .before .before .before .before .before .before .before .before .before .args .h) (c .before .before .before .before .before .before .before .before .before .before .before .before .before .before .before .before .before .before .before .args .ext .now) (c .before .before .before .before .before .before .before .before .before .before .before .before .before .before .before .before .before .before .before .args .blk .now) (c .before .before .before .before .before .before .before .before .before .before .before .before .before .before .before .before .before .before .before .args .spare .now)) (c .before .before .before .before .before .before .before .before .before .before .before .before .before .before .before .before .before .before .before .pre) _ (c .before .before .before .before .before .before .before .before .before .before .before .meeting-of .ensures) _ _ _ (c .before .before .before .before .before .before .before .cut-range .ensures)
+place-requires c κs =
+    let w = c .before .before .before .before .before .before .before in
+    let s = start w in
+    let a = s .args in
+    placeable (a .number) (a .l) (a .n) (a .out .now) (state s) (s .pre .0) (a .m) (s .pre .1) _ _ _ (w .cut-range .ensures)
 
 cast-put-pieces : tie.Need-cast-put-pieces
 cast-put-pieces c = search needs
@@ -24,10 +34,24 @@ cast-put-pieces-2 : tie.Need-cast-put-pieces-2
 cast-put-pieces-2 c = search needs
 
 put-pieces-requires : tie.Need-put-pieces-requires
-put-pieces-requires c κs = puttable (c .before .before .before .before .before .before .before .before .before .before .before .before .before .before .before .before .before .before .before .before .before .before .before .before .before .before .before .before .args .number) (c .before .before .before .before .before .before .before .before .before .before .before .before .before .before .before .before .before .before .before .before .before .before .before .before .before .before .before .before .args .l) (c .before .before .before .before .before .before .before .before .before .before .before .before .before .before .before .before .before .before .before .before .before .before .before .before .before .before .before .before .args .n) (c .before .before .before .before .before .before .before .before .before .before .before .before .before .before .before .before .before .before .before .before .before .before .before .before .before .before .before .before .args .out .now) (lent (c .before .before .before .before .before .before .before .before .before .before .before .before .before .before .before .before .before .before .before .before .before .before .before .before .before .before .before .before .args .h) (c .before .before .before .before .before .before .before .before .before .before .before .before .before .before .before .before .before .before .before .before .before .before .before .before .before .before .before .before .args .ext .now) (c .before .before .before .before .before .before .before .before .before .before .before .before .before .before .before .before .before .before .before .before .before .before .before .before .before .before .before .before .args .blk .now) (c .before .before .before .before .before .before .before .before .before .before .before .before .before .before .before .before .before .before .before .before .before .before .before .before .before .before .before .before .args .spare .now)) (c .before .before .before .before .before .before .before .before .before .before .before .before .before .before .before .before .before .before .before .before .before .before .before .before .before .before .before .before .pre) _ (c .before .before .before .before .before .before .before .before .before .before .before .before .before .before .before .before .before .before .before .before .meeting-of .ensures) _ _ _ (c .before .before .before .before .before .before .before .before .before .before .before .before .before .before .before .before .cut-range .ensures) _ _ _ _ (c .before .before .before .before .before .before .before .blk2 .given) (c .before .before .before .before .before .before .before .before .place .ensures)
+put-pieces-requires c κs =
+    let p = c .before .before .before .before .before .before .before .before in
+    let w = p .before .before .before .before .before .before .before .before in
+    let s = start w in
+    let a = s .args in
+    puttable (a .number) (a .l) (a .n) (a .out .now) (state s) (s .pre .0) (a .m) (s .pre .1) _ _ _ (w .cut-range .ensures) _ _ _ _ (c .before .before .before .before .before .before .before .blk2 .given) (p .place .ensures)
 
 cast-g : tie.Need-cast-g
-cast-g c = omega (arith, write-few (c .before .before .before .before .before .before .before .before .before .before .before .before .before .before .before .before .before .before .before .before .before .before .before .before .before .before .before .before .before .before .before .args .number) (c .before .before .before .before .before .before .before .before .before .before .before .before .before .before .before .before .before .before .before .before .before .before .before .before .before .before .before .before .before .before .before .args .l) (c .before .before .before .before .before .before .before .before .before .before .before .before .before .before .before .before .before .before .before .before .before .before .before .before .before .before .before .before .before .before .before .args .n) (c .before .before .before .before .before .before .before .before .before .before .before .before .before .before .before .before .before .before .before .before .before .before .before .before .before .before .before .before .before .before .before .args .out .now) (lent (c .before .before .before .before .before .before .before .before .before .before .before .before .before .before .before .before .before .before .before .before .before .before .before .before .before .before .before .before .before .before .before .args .h) (c .before .before .before .before .before .before .before .before .before .before .before .before .before .before .before .before .before .before .before .before .before .before .before .before .before .before .before .before .before .before .before .args .ext .now) (c .before .before .before .before .before .before .before .before .before .before .before .before .before .before .before .before .before .before .before .before .before .before .before .before .before .before .before .before .before .before .before .args .blk .now) (c .before .before .before .before .before .before .before .before .before .before .before .before .before .before .before .before .before .before .before .before .before .before .before .before .before .before .before .before .before .before .before .args .spare .now)) (c .before .before .before .before .before .before .before .before .before .before .before .before .before .before .before .before .before .before .before .before .before .before .before .before .before .before .before .before .before .before .before .pre) _ (c .before .before .before .before .before .before .before .before .before .before .before .before .before .before .before .before .before .before .before .before .before .before .before .meeting-of .ensures) _ _ _ (c .before .before .before .before .before .before .before .before .before .before .before .before .before .before .before .before .before .before .before .cut-range .ensures) _ _ _ _ (c .before .before .before .before .before .before .before .before .before .before .blk2 .given) (c .before .before .before .before .before .before .before .before .before .before .before .place .ensures) _ _ (c .before .before .put-pieces .ensures))
+cast-g c =
+    let p = c .before .before .before .before .before .before .before .before .before .before .before in
+    let w = p .before .before .before .before .before .before .before .before in
+    let s = start w in
+    let a = s .args in
+    omega (
+      arith,
+      write-few (a .number) (a .l) (a .n) (a .out .now) (state s) (s .pre .0) (a .m) (s .pre .1) _ _ _ (w .cut-range .ensures)
+          _ _ _ _ (c .before .before .before .before .before .before .before .before .before .before .blk2 .given) (p .place .ensures) _ _ (c .before .before .put-pieces .ensures),
+    )
 
 same-length : tie.Need-same-length
 same-length c = search needs
@@ -43,16 +67,21 @@ same-length-4 c = search needs
 
 returns : tie.Need-returns
 returns c =
-    accepts (Call.write (c .before .before .before .before .before .before .before .before .before .before .before .before .before .before .before .before .before .before .before .before .before .before .before .before .before .before .before .before .before .before .before .args .number) (c .before .before .before .before .before .before .before .before .before .before .before .before .before .before .before .before .before .before .before .before .before .before .before .before .before .before .before .before .before .before .before .args .l) (c .before .before .before .before .before .before .before .before .before .before .before .before .before .before .before .before .before .before .before .before .before .before .before .before .before .before .before .before .before .before .before .args .n) (c .before .before .before .before .before .before .before .before .before .before .before .before .before .before .before .before .before .before .before .before .before .before .before .before .before .before .before .before .before .before .before .args .out .now)) (lent (c .before .before .before .before .before .before .before .before .before .before .before .before .before .before .before .before .before .before .before .before .before .before .before .before .before .before .before .before .before .before .before .args .h) (c .before .before .before .before .before .before .before .before .before .before .before .before .before .before .before .before .before .before .before .before .before .before .before .before .before .before .before .before .before .before .before .args .ext .now) (c .before .before .before .before .before .before .before .before .before .before .before .before .before .before .before .before .before .before .before .before .before .before .before .before .before .before .before .before .before .before .before .args .blk .now) (c .before .before .before .before .before .before .before .before .before .before .before .before .before .before .before .before .before .before .before .before .before .before .before .before .before .before .before .before .before .before .before .args .spare .now)) (c .before .before .before .before .before .before .before .before .before .before .before .before .before .before .before .before .before .before .before .before .before .before .before .before .before .before .before .before .before .before .before .pre) _ _ _
-    (write-counts (c .before .before .before .before .before .before .before .before .before .before .before .before .before .before .before .before .before .before .before .before .before .before .before .before .before .before .before .before .before .before .before .args .number) (c .before .before .before .before .before .before .before .before .before .before .before .before .before .before .before .before .before .before .before .before .before .before .before .before .before .before .before .before .before .before .before .args .l) (c .before .before .before .before .before .before .before .before .before .before .before .before .before .before .before .before .before .before .before .before .before .before .before .before .before .before .before .before .before .before .before .args .n) (c .before .before .before .before .before .before .before .before .before .before .before .before .before .before .before .before .before .before .before .before .before .before .before .before .before .before .before .before .before .before .before .args .out .now) (lent (c .before .before .before .before .before .before .before .before .before .before .before .before .before .before .before .before .before .before .before .before .before .before .before .before .before .before .before .before .before .before .before .args .h) (c .before .before .before .before .before .before .before .before .before .before .before .before .before .before .before .before .before .before .before .before .before .before .before .before .before .before .before .before .before .before .before .args .ext .now) (c .before .before .before .before .before .before .before .before .before .before .before .before .before .before .before .before .before .before .before .before .before .before .before .before .before .before .before .before .before .before .before .args .blk .now) (c .before .before .before .before .before .before .before .before .before .before .before .before .before .before .before .before .before .before .before .before .before .before .before .before .before .before .before .before .before .before .before .args .spare .now)) (c .before .before .before .before .before .before .before .before .before .before .before .before .before .before .before .before .before .before .before .before .before .before .before .before .before .before .before .before .before .before .before .pre) _ (c .before .before .before .before .before .before .before .before .before .before .before .before .before .before .before .before .before .before .before .before .before .before .before .meeting-of .ensures) _ _ _ (c .before .before .before .before .before .before .before .before .before .before .before .before .before .before .before .before .before .before .before .cut-range .ensures) _ _ _ _ (c .before .before .before .before .before .before .before .before .before .before .blk2 .given) (c .before .before .before .before .before .before .before .before .before .before .before .place .ensures) _ _ (c .before .before .put-pieces .ensures))
-    (write-leaves (c .before .before .before .before .before .before .before .before .before .before .before .before .before .before .before .before .before .before .before .before .before .before .before .before .before .before .before .before .before .before .before .args .number) (c .before .before .before .before .before .before .before .before .before .before .before .before .before .before .before .before .before .before .before .before .before .before .before .before .before .before .before .before .before .before .before .args .l) (c .before .before .before .before .before .before .before .before .before .before .before .before .before .before .before .before .before .before .before .before .before .before .before .before .before .before .before .before .before .before .before .args .n) (c .before .before .before .before .before .before .before .before .before .before .before .before .before .before .before .before .before .before .before .before .before .before .before .before .before .before .before .before .before .before .before .args .out .now) (lent (c .before .before .before .before .before .before .before .before .before .before .before .before .before .before .before .before .before .before .before .before .before .before .before .before .before .before .before .before .before .before .before .args .h) (c .before .before .before .before .before .before .before .before .before .before .before .before .before .before .before .before .before .before .before .before .before .before .before .before .before .before .before .before .before .before .before .args .ext .now) (c .before .before .before .before .before .before .before .before .before .before .before .before .before .before .before .before .before .before .before .before .before .before .before .before .before .before .before .before .before .before .before .args .blk .now) (c .before .before .before .before .before .before .before .before .before .before .before .before .before .before .before .before .before .before .before .before .before .before .before .before .before .before .before .before .before .before .before .args .spare .now)) (c .before .before .before .before .before .before .before .before .before .before .before .before .before .before .before .before .before .before .before .before .before .before .before .before .before .before .before .before .before .before .before .pre) _ (c .before .before .before .before .before .before .before .before .before .before .before .before .before .before .before .before .before .before .before .before .before .before .before .meeting-of .ensures) _ _ _ (c .before .before .before .before .before .before .before .before .before .before .before .before .before .before .before .before .before .before .before .cut-range .ensures) _ _ _ _ (c .before .before .before .before .before .before .before .before .before .before .blk2 .given) (c .before .before .before .before .before .before .before .before .before .before .before .place .ensures) _ _ (c .before .before .put-pieces .ensures))
-    (write-lists (c .before .before .before .before .before .before .before .before .before .before .before .before .before .before .before .before .before .before .before .before .before .before .before .before .before .before .before .before .before .before .before .args .number) (c .before .before .before .before .before .before .before .before .before .before .before .before .before .before .before .before .before .before .before .before .before .before .before .before .before .before .before .before .before .before .before .args .l) (c .before .before .before .before .before .before .before .before .before .before .before .before .before .before .before .before .before .before .before .before .before .before .before .before .before .before .before .before .before .before .before .args .n) (c .before .before .before .before .before .before .before .before .before .before .before .before .before .before .before .before .before .before .before .before .before .before .before .before .before .before .before .before .before .before .before .args .out .now) (lent (c .before .before .before .before .before .before .before .before .before .before .before .before .before .before .before .before .before .before .before .before .before .before .before .before .before .before .before .before .before .before .before .args .h) (c .before .before .before .before .before .before .before .before .before .before .before .before .before .before .before .before .before .before .before .before .before .before .before .before .before .before .before .before .before .before .before .args .ext .now) (c .before .before .before .before .before .before .before .before .before .before .before .before .before .before .before .before .before .before .before .before .before .before .before .before .before .before .before .before .before .before .before .args .blk .now) (c .before .before .before .before .before .before .before .before .before .before .before .before .before .before .before .before .before .before .before .before .before .before .before .before .before .before .before .before .before .before .before .args .spare .now)) (c .before .before .before .before .before .before .before .before .before .before .before .before .before .before .before .before .before .before .before .before .before .before .before .before .before .before .before .before .before .before .before .pre) _ (c .before .before .before .before .before .before .before .before .before .before .before .before .before .before .before .before .before .before .before .before .before .before .before .meeting-of .ensures) _ _ _ (c .before .before .before .before .before .before .before .before .before .before .before .before .before .before .before .before .before .before .before .cut-range .ensures) _ _ _ _ (c .before .before .before .before .before .before .before .before .before .before .blk2 .given) (c .before .before .before .before .before .before .before .before .before .before .before .place .ensures) _ _ (c .before .before .put-pieces .ensures))
+    let p = c .before .before .before .before .before .before .before .before .before .before .before in
+    let w = p .before .before .before .before .before .before .before .before in
+    let s = start w in
+    let a = s .args in
+    let size = c .before .before .before .before .before .before .before .before .before .before .blk2 .given in
+    let put = c .before .before .put-pieces .ensures in
+    accepts (Call.write (a .number) (a .l) (a .n) (a .out .now)) (state s) (s .pre .0) _ _ _
+    (write-counts (a .number) (a .l) (a .n) (a .out .now) (state s) (s .pre .0) (a .m) (s .pre .1) _ _ _ (w .cut-range .ensures) _ _ _ _ size (p .place .ensures) _ _ put)
+    (write-leaves (a .number) (a .l) (a .n) (a .out .now) (state s) (s .pre .0) (a .m) (s .pre .1) _ _ _ (w .cut-range .ensures) _ _ _ _ size (p .place .ensures) _ _ put)
+    (write-lists (a .number) (a .l) (a .n) (a .out .now) (state s) (s .pre .0) (a .m) (s .pre .1) _ _ _ (w .cut-range .ensures) _ _ _ _ size (p .place .ensures) _ _ put)
 
 pub place-pages-spec : {M : Type 1} → statement M
 place-pages-spec =
     tie.close
     (tie.spec
-    meeting-of-requires
     cut-range-requires
     place-requires
     cast-put-pieces

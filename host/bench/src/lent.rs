@@ -1,0 +1,120 @@
+//! What is lent to a call, the calls that are measured on it, and the clock.
+
+use std::time::Instant;
+
+use compare::to_library;
+use plain::{generate, Head, Layer, Plain, Words};
+use utasiro::ffi;
+
+/// M of every state, so that few extents and many are in the same words.
+pub const SLOTS: u32 = 8192;
+
+/// A state to measure on, and how many times.
+pub struct Sample {
+    pub blocks: u32,
+    pub pages: u32,
+    /// Extents in use, if so many fit.
+    pub extents: u32,
+    pub repeats: u32,
+}
+
+#[derive(Clone, Copy)]
+pub enum Call {
+    Report,
+    Read,
+    ReadAll,
+    ReadRecords,
+    Write,
+    Trim,
+    Reclaim,
+    Fresh,
+}
+
+/// What is lent to a call. The library's words are lent as they are.
+pub struct Lent {
+    pub head: Head,
+    pub words: Words,
+    answer: Vec<u32>,
+    /// The first page and the pages of a write, a trim and a short read.
+    range: (u32, u32),
+}
+
+impl Lent {
+    /// A sample's state, and a range of so many pages that lies behind one part in `parts`
+    /// of the logical pages.
+    pub fn of(sample: &Sample, parts: u32, count: u32) -> Lent {
+        let logical = (sample.blocks - 2) * sample.pages;
+        let (head, words) = generate::scattered(sample.blocks, sample.pages, logical, SLOTS, sample.extents);
+        let range = (logical / parts + 1, count);
+        Lent { head, words, answer: vec![0; 3 * (2 * SLOTS as usize + 1)], range }
+    }
+
+    pub fn take(&mut self, from: &Words) {
+        self.words.extents.copy_from_slice(&from.extents);
+        self.words.blocks.copy_from_slice(&from.blocks);
+        self.words.spare.copy_from_slice(&from.spare);
+    }
+
+    /// A call of plain; its refusal.
+    pub fn plain(&mut self, call: Call) -> u32 {
+        let (head, (start, count)) = (self.head, self.range);
+        let Lent { words, answer, .. } = self;
+        match call {
+            Call::Report => Plain.report(head, words).refusal,
+            Call::Read | Call::ReadRecords => Plain.read(head, words, start, count, answer).refusal,
+            Call::ReadAll => Plain.read(head, words, 0, head.logical, answer).refusal,
+            Call::Write => Plain.write(head, words, head.last + 1, start, count, answer).refusal,
+            Call::Trim => Plain.trim(head, words, head.last + 1, start, count).refusal,
+            Call::Reclaim => Plain.reclaim(head, words, answer).refusal,
+            Call::Fresh => Plain.fresh(head.blocks, head.pages, head.logical, head.slots, words).refusal,
+        }
+    }
+
+    /// The same call of the library; its refusal.
+    pub fn library(&mut self, call: Call) -> u32 {
+        let (start, count) = self.range;
+        let Head { blocks, pages, logical, slots, last, .. } = self.head;
+        let head = to_library(self.head);
+        let Words { extents: e, blocks: b, spare: s } = &mut self.words;
+        let (el, bl, sl, al) = (e.len(), b.len(), s.len(), self.answer.len());
+        let (e, b, s, a) = (e.as_mut_ptr(), b.as_mut_ptr(), s.as_mut_ptr(), self.answer.as_mut_ptr());
+        // Safety: the buffers are four vectors with their own lengths; a record is three words.
+        unsafe {
+            match call {
+                Call::Report => ffi::utasiro_report(head, e, el, b, bl, s, sl).refusal,
+                Call::Read => ffi::utasiro_read(head, e, el, b, bl, s, sl, start, count, a, al).refusal,
+                Call::ReadAll => ffi::utasiro_read(head, e, el, b, bl, s, sl, 0, logical, a, al).refusal,
+                Call::ReadRecords => {
+                    let records = e.cast::<ffi::Extent>();
+                    ffi::utasiro_read_records(head, records, el / 3, b, bl, s, sl, start, count, a, al)
+                        .refusal
+                }
+                Call::Write => {
+                    ffi::utasiro_write(head, e, el, b, bl, s, sl, last + 1, start, count, a, al).refusal
+                }
+                Call::Trim => ffi::utasiro_trim(head, e, el, b, bl, s, sl, last + 1, start, count).refusal,
+                Call::Reclaim => ffi::utasiro_reclaim(head, e, el, b, bl, s, sl, a, al).refusal,
+                Call::Fresh => ffi::utasiro_fresh(blocks, pages, logical, slots, e, el, b, bl, s, sl).refusal,
+            }
+        }
+    }
+}
+
+/// The value itself, where the compiler knows nothing of it: nothing that is measured
+/// is worked out before, or left out.
+pub fn black_box<T: Copy>(value: T) -> T {
+    // Safety: a reference may be read, and what is read is copied.
+    unsafe { std::ptr::read_volatile(&value) }
+}
+
+pub fn nanoseconds(run: impl FnOnce()) -> f64 {
+    let start = Instant::now();
+    run();
+    start.elapsed().as_nanos() as f64
+}
+
+pub fn median(mut times: Vec<f64>) -> f64 {
+    times.sort_by(f64::total_cmp);
+    times[times.len() / 2]
+}
+
