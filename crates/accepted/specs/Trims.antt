@@ -1,25 +1,25 @@
 -- What cutting a range out of a sound state leaves: the words of the device whose lines in the range are holes. A trim is this and a number; a
 -- write begins with it.
 use Prim.Native.Nat.{ℕ, _+_, _-_, _*_, _/_, _≤_, _<_}
-use mathlib.Core.Path.{_≡_, refl, sym, ap, ap₂, _∙_}
-use mathlib.Core.List.{List, [], _∷_, _++_}
+use mathlib.Core.Path.{_≡_, refl, sym, ap, _∙_}
+use mathlib.Core.List.{List, [], _++_}
 use mathlib.Core.Logic.{by-cases}
 use native.Mathlib.Omega.{arith}
 use native.Mathlib.Decide.{decLt}
 use borrow.Author.Tests.{ne-eqb}
 use lib.Dec.{eqb}
-use lib.ListN.{length, getD, replicate, List·getD-eq-default}
+use lib.ListN.{length, replicate}
 use Rattle.rules.specs.Counting.{sum, count}
-use Rattle.rules.specs.Extents.{none, lookup, slot, slotsFrom, flat}
-use Rattle.rules.specs.Blocks.{stride, fillWord, validWord, records}
+use Rattle.rules.specs.Extents.{none, lookup, slot, flat}
+use Rattle.rules.specs.Blocks.{validWord}
 use Rattle.rules.specs.Lent.{Lent, lent, inUse, fillOf, validOf}
-use Rattle.rules.specs.Device.{Device, blocks, lines, at, mapped, valid, extents, deviceOf, headOf, wordsOf}
+use Rattle.rules.specs.Device.{Device, blocks, at, mapped, valid, extents, deviceOf, headOf, wordsOf}
 use Rattle.rules.specs.Request.{withTable, trimmed}
 use Rattle.rules.specs.Calls.{Call, counts, leaves, lists, over}
 use Rattle.rules.specs.declared.Head.{Head}
 use Rattle.rules.specs.declared.Extent.{Extent}
 use Rattle.laws.specs.Sums.{sum-zero, count-same}
-use Rattle.laws.specs.Sane.{Shaped, Sane, pagesIn}
+use Rattle.laws.specs.Sane.{Shaped, Sane}
 use Rattle.laws.specs.Shapes.{lines-pages, pages-high}
 use Rattle.laws.specs.Cut.{cut}
 use Rattle.laws.specs.Device.{none-block}
@@ -28,8 +28,8 @@ use Rattle.laws.specs.Valid.{trim-valid}
 use Rattle.laws.specs.Encoded.{trim-extents}
 use Rattle.laws.specs.Tallies.{inRange, total, total-slots, in-range-slots, in-slots}
 use Rattle.laws.specs.Records.{words-records}
-use Rattle.laws.specs.States.{device-lines, device-blocks, device-at, device-fill, sane-good, extents-in-use, valid-in-use}
-use Rattle.map.specs.Padded.{padded, Holds, Becomes, zeros-holds}
+use Rattle.laws.specs.States.{device-lines, device-blocks, device-at, sane-good, extents-in-use, valid-in-use}
+use Rattle.map.specs.Padded.{padded, Becomes, zeros-holds}
 use Rattle.map.specs.Sound.{Sound}
 use Rattle.cutting.specs.Cutting.{Cuttable}
 use Rattle.verdicts.specs.Reading.{rows-sound}

@@ -17,7 +17,7 @@ use Rattle.rules.specs.declared.Extent.{Extent}
 use Rattle.laws.specs.Bools.{cases}
 use Rattle.laws.specs.Sums.{sum-zero}
 use Rattle.laws.specs.Tallies.{overlap, inRange, overlap-before, overlap-after, total, total-slots}
-use Rattle.map.specs.Sound.{Sound, sound-order, sound-piece}
+use Rattle.map.specs.Sound.{Sound, sound-order}
 use Rattle.map.specs.Halved.{endsBy, ends-first}
 
 -- what the words of the blocks become, for N = n, without the pages of extents from l up to e

@@ -1,8 +1,8 @@
 -- One walk over the slots in use: rules 1, 2 and 4 for each, and the pages of each block added up on the way.
-use Prim.Native.Nat.{ℕ, suc, _+_, _-_, _*_, _/_, _≤_, _<_}
+use Prim.Native.Nat.{ℕ, _+_, _-_, _*_, _/_, _≤_, _<_}
 use mathlib.Core.Bool.{Bool, true, false, cond, true≢false}
 use mathlib.Core.Path.{_≡_, refl, sym, ap, _∙_}
-use mathlib.Core.List.{List, _∷_}
+use mathlib.Core.List.{List}
 use mathlib.Core.Logic.{by-cases}
 use native.Mathlib.Omega.{arith}
 use native.Mathlib.Decide.{ℕ-discrete}
@@ -14,7 +14,7 @@ use lib.ListN.{length, getD, set, length-set}
 use lib.Seq.{getD-set-same, getD-set-other}
 use Rattle.rules.specs.Counting.{sum}
 use Rattle.rules.specs.Blocks.{stride}
-use Rattle.rules.specs.Extents.{none, slot, slotsFrom}
+use Rattle.rules.specs.Extents.{none, slotsFrom}
 use Rattle.laws.specs.Rows.{Rows, rows-le}
 use Rattle.laws.specs.Sane.{pagesIn}
 use Rattle.laws.specs.Slots.{slots-first}

@@ -1,5 +1,5 @@
 -- A trim's verdict, from the tests that the code makes.
-use Prim.Native.Nat.{ℕ, _+_, _*_, _≤_, _<_}
+use Prim.Native.Nat.{ℕ, _+_, _≤_, _<_}
 use mathlib.Core.Bool.{Bool, not}
 use mathlib.Core.Path.{_≡_, refl, sym, ap, ap₂, _∙_}
 use native.Mathlib.Omega.{arith}
@@ -7,8 +7,8 @@ use lib.Dec.{ltb, leb}
 use lib.ListN.{length}
 use Rattle.rules.specs.Extents.{end}
 use Rattle.rules.specs.Lent.{Lent, inUse}
-use Rattle.rules.specs.Device.{Device, extents, deviceOf}
-use Rattle.rules.specs.Request.{judged, trimmed, withTable}
+use Rattle.rules.specs.Device.{extents, deviceOf}
+use Rattle.rules.specs.Request.{trimmed, withTable}
 use Rattle.rules.specs.Answers.{number, refuse}
 use Rattle.rules.specs.Calls.{outside, tooMany, trimRefusal}
 use Rattle.rules.specs.declared.Refusal.{Refusal}

@@ -1,29 +1,21 @@
 -- Where a write's new extents meet the old ones, and how many extents there are afterwards.
-use Prim.Native.Nat.{ℕ, zero, suc, _+_, _-_, _*_, _≤_, _<_}
-use mathlib.Core.Bool.{Bool, true, false}
-use mathlib.Core.Path.{_≡_, refl, sym, ap, _∙_}
-use mathlib.Core.List.{List}
+use Prim.Native.Nat.{ℕ, zero, suc, _+_, _*_, _≤_, _<_}
+use mathlib.Core.Bool.{Bool}
+use mathlib.Core.Path.{_≡_, refl, ap, _∙_}
 use native.Mathlib.Omega.{arith}
-use lib.Dec.{ltb}
 use lib.ListN.{length, getD}
 use Rattle.rules.specs.Counting.{one}
-use Rattle.rules.specs.Extents.{none, extent, end}
-use Rattle.rules.specs.Blocks.{stride}
+use Rattle.rules.specs.Extents.{none, extent}
 use Rattle.rules.specs.Lent.{Lent, inUse}
-use Rattle.rules.specs.Device.{Device, blocks, lines, fill, free, extents, deviceOf}
+use Rattle.rules.specs.Device.{Device, blocks, fill, free, extents, deviceOf}
 use Rattle.rules.specs.Placement.{placesAt, target, targets, puts, places, pieces}
-use Rattle.rules.specs.declared.Extent.{Extent}
 use Rattle.laws.specs.Sane.{Shaped, Sane}
-use Rattle.laws.specs.Shapes.{lines-pages, pages-high, pages-fit, some-pages}
-use Rattle.laws.specs.Counts.{startsBefore, endsAfter, leftJoin, tally-le}
+use Rattle.laws.specs.Counts.{startsBefore, endsAfter, leftJoin}
 use Rattle.laws.specs.Growth.{write-grows}
 use Rattle.laws.specs.Spread.{firstPage, spread}
-use Rattle.laws.specs.States.{device-lines, device-blocks, extents-in-use, sane-good}
-use Rattle.laws.specs.Runs.{runs-length}
-use Rattle.laws.specs.Placed.{length-placed}
+use Rattle.laws.specs.States.{device-lines, extents-in-use, sane-good}
 use Rattle.map.specs.Around.{Beside, joinsBefore, joins-before}
-use Rattle.targets.specs.Bare.{fillsOf}
-use Rattle.targets.specs.Bare.{bare-device, pieces-on, first-on}
+use Rattle.targets.specs.Bare.{fillsOf, bare-device, pieces-on, first-on}
 use Rattle.verdicts.specs.Trimming.{few-around}
 use Rattle.writable.specs.declared.Meeting.{Meeting}
 
@@ -77,17 +69,6 @@ module _ (l n : ℕ) (s : Lent) (z : Writable l n s) where
   joined-is p b t e f g =
       ap one (g ∙ ap (λ (x : ℕ). joinsBefore (s .head .pages) (extent l x 1) b (s .extentWords)) e)
       ∙ joins-before (s .head .pages) (s .head .logical) (extent l (firstOf (deviceOf s)) 1) (s .extentWords) (s .head .used) b (z .sane .rows) f
-
-  pub few-pieces : piecesOf l n s ≤ 256
-  unfolding pieces
-  few-pieces =
-      omega (
-        arith,
-        runs-length (deviceOf s .pages) l (places l n (deviceOf s)),
-        length-placed l n (deviceOf s),
-        z .block,
-        z .shape .sizes .n-high,
-      )
 
   pages-same : deviceOf s .pages ≡ s .head .pages
   unfolding deviceOf

@@ -1,27 +1,26 @@
 -- What a write that nothing refuses does to the words, step by step: the range cut out, the pages placed, the pieces put in.
-use Prim.Native.Nat.{ℕ, zero, suc, _+_, _-_, _*_, _%_, _^_, _≤_, _<_}
+use Prim.Native.Nat.{ℕ, zero, suc, _+_, _-_, _*_, _≤_, _<_}
 use mathlib.Core.Bool.{Bool, true, false}
 use mathlib.Core.Path.{_≡_, refl, sym, ap, ap₂, _∙_, subst}
 use mathlib.Core.List.{List, [], _∷_, _++_}
 use native.Mathlib.Omega.{arith}
-use lib.Dec.{eqb}
-use lib.ListN.{length, getD, replicate, drop, length-append, length-drop}
-use Rattle.rules.specs.Counting.{one, count, tabulate}
+use lib.ListN.{length, replicate, drop, length-append}
+use Rattle.rules.specs.Counting.{one, count}
 use Rattle.rules.specs.Extents.{none, extent, slot, slotsFrom, flat}
 use Rattle.rules.specs.Blocks.{stride, fillWord, validWord, records}
 use Rattle.rules.specs.Lent.{Lent, lent, inUse, fillOf}
-use Rattle.rules.specs.Device.{Device, blocks, lines, fill, mapped, valid, free, extents, deviceOf, headOf, wordsOf}
-use Rattle.rules.specs.Placement.{target, targets, puts, pieces}
+use Rattle.rules.specs.Device.{Device, blocks, lines, fill, mapped, valid, extents, deviceOf, headOf, wordsOf}
+use Rattle.rules.specs.Placement.{puts, pieces}
 use Rattle.rules.specs.Request.{withTable, numbered, written, trimmed}
 use Rattle.rules.specs.Calls.{Call, counts, leaves, lists, over}
 use Rattle.rules.specs.declared.Head.{Head}
 use Rattle.rules.specs.declared.Extent.{Extent}
 use Rattle.laws.specs.Device.{Sound}
-use Rattle.laws.specs.Sane.{Shaped, Sane, Good}
-use Rattle.laws.specs.Rows.{Rows, rows-first, rows-at}
+use Rattle.laws.specs.Sane.{Good}
+use Rattle.laws.specs.Rows.{Rows, rows-first}
 use Rattle.laws.specs.Shapes.{lines-pages, pages-high}
 use Rattle.laws.specs.Cut.{cut, cut-rows}
-use Rattle.laws.specs.Counts.{startsBefore, endsAfter, leftJoin, left-none, cut-length}
+use Rattle.laws.specs.Counts.{startsBefore, leftJoin, left-none, cut-length}
 use Rattle.laws.specs.Slots.{flat-length, slots-flat}
 use Rattle.laws.specs.Ranked.{rows-ranked}
 use Rattle.laws.specs.Cells.{tabulate-same}
@@ -31,12 +30,12 @@ use Rattle.laws.specs.Placed.{Puts, puts-all, puts-slots, puts-pages, puts-rese
 use Rattle.laws.specs.Records.{records-length, records-fill, records-valid, words-records}
 use Rattle.laws.specs.Alike.{Alike, alike-free, alike-pieces, over-rise}
 use Rattle.laws.specs.States.{device-lines, device-blocks, device-fill, extents-in-use, sane-good}
-use Rattle.map.specs.Padded.{padded, Holds, Becomes, became-length, became-slots, became-holds}
+use Rattle.map.specs.Padded.{padded, Becomes, became-length, became-slots, became-holds}
 use Rattle.putting.specs.Pieces.{putIn, Puttable}
 use Rattle.targets.specs.Bare.{bare, fillsOf, bare-alike}
 use Rattle.placing.specs.Place.{Placed, placed-alike, Ready as Placeable}
 use Rattle.verdicts.specs.Trimming.{trim-nodes}
-use Rattle.writable.specs.Meeting.{Writable, Meets, firstOf, piecesOf, nodesOf, grows}
+use Rattle.writable.specs.Meeting.{Writable, Meets, firstOf, piecesOf, grows}
 use Rattle.writable.specs.declared.Meeting.{Meeting}
 use Rattle.accepted.specs.Accepts.{Ready}
 use Rattle.accepted.specs.Trims.{Cut, holed, Holed}

@@ -31,15 +31,10 @@ const CALLS: [(Call, &str); 8] = [
     (Call::Fresh, "fresh"),
 ];
 
-/// A sample's state, with a range of 48 pages.
-fn lent(sample: &Sample) -> Lent {
-    Lent::of(sample, 4, 48)
-}
-
 /// The medians of a call: one pass, the test, the library, plain. Each is measured
 /// once in each round, on words copied afresh, so that all see the same machine.
 fn measure(sample: &Sample, call: Call) -> [f64; 4] {
-    let mut lent = lent(sample);
+    let mut lent = Lent::of(sample);
     let state = lent.words.clone();
     let mut times: [Vec<f64>; 4] = Default::default();
     for _ in 0..sample.repeats {
@@ -67,7 +62,7 @@ pub fn table(samples: &[Sample]) -> Vec<String> {
     ];
     for sample in samples {
         let size = sample.blocks * sample.pages;
-        let used = lent(sample).head.used;
+        let used = Lent::of(sample).head.used;
         let [pass, test, ..] = measure(sample, Call::Report);
         lines.push(format!(
             "| {size} | {used} | the test in plain Rust | {:.2} | 1.00 | | {pass:.0} |",
@@ -89,13 +84,13 @@ pub fn table(samples: &[Sample]) -> Vec<String> {
 
 /// A device of the library in a sample's state, for whoever wants to look at one.
 pub fn device(sample: &Sample) -> Device {
-    let Lent { head, words, .. } = lent(sample);
+    let Lent { head, words, .. } = Lent::of(sample);
     Device::from_parts(to_library(head), words.extents, words.blocks, words.spare)
 }
 
 #[cfg(test)]
 mod tests {
-    use super::{device, lent, CALLS, SAMPLES};
+    use super::{device, Lent, CALLS, SAMPLES};
 
     /// Every sample has the extents it should, and accepts every call.
     #[test]
@@ -104,8 +99,8 @@ mod tests {
             assert_eq!(device(sample).head().used, sample.extents);
             assert!(device(sample).report().expect("a sound state").stale > 0);
             for (call, name) in CALLS {
-                assert_eq!(lent(sample).library(call), 0, "{name}");
-                assert_eq!(lent(sample).plain(call), 0, "{name}");
+                assert_eq!(Lent::of(sample).library(call), 0, "{name}");
+                assert_eq!(Lent::of(sample).plain(call), 0, "{name}");
             }
         }
     }

@@ -10,6 +10,7 @@ use utasiro::ffi;
 pub const SLOTS: u32 = 8192;
 
 /// A state to measure on, and how many times.
+#[derive(Clone, Copy)]
 pub struct Sample {
     pub blocks: u32,
     pub pages: u32,
@@ -35,24 +36,29 @@ pub struct Lent {
     pub head: Head,
     pub words: Words,
     answer: Vec<u32>,
-    /// The first page and the pages of a write, a trim and a short read.
-    range: (u32, u32),
+    /// The first page and the number of pages of a write, a trim and a short read.
+    pub range: (u32, u32),
 }
 
 impl Lent {
-    /// A sample's state, and a range of so many pages that lies behind one part in `parts`
-    /// of the logical pages.
-    pub fn of(sample: &Sample, parts: u32, count: u32) -> Lent {
+    /// A sample's state, and 48 pages behind a quarter of the logical ones.
+    pub fn of(sample: &Sample) -> Lent {
         let logical = (sample.blocks - 2) * sample.pages;
         let (head, words) = generate::scattered(sample.blocks, sample.pages, logical, SLOTS, sample.extents);
-        let range = (logical / parts + 1, count);
-        Lent { head, words, answer: vec![0; 3 * (2 * SLOTS as usize + 1)], range }
+        Lent { head, words, answer: vec![0; 3 * (2 * SLOTS as usize + 1)], range: (logical / 4 + 1, 48) }
     }
 
     pub fn take(&mut self, from: &Words) {
         self.words.extents.copy_from_slice(&from.extents);
         self.words.blocks.copy_from_slice(&from.blocks);
         self.words.spare.copy_from_slice(&from.spare);
+    }
+
+    /// Makes the last block's valid count wrong, which is the last thing that a test of the
+    /// state comes to: a call is then refused 2 after the whole test and does nothing else.
+    pub fn spoil(&mut self) {
+        let valid = self.words.blocks.last_mut().expect("a device has blocks");
+        *valid += 1;
     }
 
     /// A call of plain; its refusal.
@@ -117,4 +123,3 @@ pub fn median(mut times: Vec<f64>) -> f64 {
     times.sort_by(f64::total_cmp);
     times[times.len() / 2]
 }
-

@@ -28,6 +28,8 @@ pub enum Fault {
     ReadChangesAWordPastTheAnswer,
     ReadIsShortAWordLate,
     ReadTakesARecordMore,
+    /// In maps of eight extents and more.
+    ReadLosesTheSlotInTheMiddle,
     ReclaimPicksTheHighestOnATie,
     ReclaimListsInLogicalOrder,
     ReclaimErasesWithZero,
@@ -304,6 +306,12 @@ impl<L: Layer> Layer for Faulty<L> {
         match (self.fault, outcome.refusal) {
             (Fault::ReadJoinsOverABlock, 0) => outcome.count = join(answer, outcome.count),
             (Fault::ReadChangesAWordPastTheAnswer, 0) => set(answer, 3 * outcome.count as usize, 0),
+            (Fault::ReadLosesTheSlotInTheMiddle, 0) if head.used >= 8 => {
+                let middle = &words.extents[3 * (head.used as usize / 2)..][..3];
+                if (middle[0]..middle[0] + middle[2]).contains(&answer[0]) {
+                    set(answer, 1, HOLE);
+                }
+            }
             _ => {}
         }
         outcome

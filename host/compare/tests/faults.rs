@@ -2,7 +2,7 @@
 //! find it, with a short list that shows the fault when it is replayed.
 
 use compare::checks::records::Readers;
-use compare::checks::{damaged, flash, histories, twice};
+use compare::checks::{damaged, flash, histories, places, twice};
 use compare::{Fault, Faulty, Pair};
 use plain::requests::{parse, run, Request};
 use plain::shrink::{lines, Shown, Tried};
@@ -20,6 +20,7 @@ const LENGTHS: Check = ("damaged: lengths", damaged::every_length_one_off);
 const BOUNDARIES: Check =
     ("damaged: boundaries", |layer| damaged::boundaries_of_largest_states(layer).map(|_| ()));
 const BLOCKS: Check = ("damaged: every block", |layer| damaged::words_of_every_block(layer).map(|_| ()));
+const PLACES: Check = ("places", |layer| places::short_maps(layer).map(|_| ()));
 const RECORDS: Check = ("records", |layer| readers(layer).small_states().map(|_| ()));
 const NUMBERS: Check =
     ("records: numbers", |layer| readers(layer).every_other_number_of_records().map(|_| ()));
@@ -50,6 +51,7 @@ const FAULTS: &[(Fault, &[Check])] = &[
     (Fault::ReadChangesAWordPastTheAnswer, &[HISTORIES, FLASH, RECORDS]),
     (Fault::ReadIsShortAWordLate, &[HISTORIES, FLASH, RECORDS]),
     (Fault::ReadTakesARecordMore, &[DAMAGED, RECORDS, NUMBERS]),
+    (Fault::ReadLosesTheSlotInTheMiddle, &[PLACES]),
     (Fault::ReclaimPicksTheHighestOnATie, &[HISTORIES]),
     (Fault::ReclaimListsInLogicalOrder, &[HISTORIES, FLASH]),
     (Fault::ReclaimErasesWithZero, &[HISTORIES, FLASH]),

@@ -4,5 +4,6 @@
 pub mod damaged;
 pub mod flash;
 pub mod histories;
+pub mod places;
 pub mod records;
 pub mod twice;
