@@ -118,39 +118,37 @@ module _ (ws : List ℕ) (u l : ℕ) (s : Sound (slotsFrom ws 0 u)) where
     pub first-le : k ≤ u
     first-le = omega (arith, found .inside)
 
-    -- the slots before it start before l; it may
+    ahead : (j : ℕ) → j < k → slot ws j .logical < l
+    ahead j h = omega (arith, found .low j h, sound-piece ws u s j (omega (arith, first-le)) .some)
+
+    behind : (j : ℕ) → k < j → j < u → l ≤ slot ws j .logical
+    behind j h t = omega (arith, found .high k (omega arith) (omega arith), sound-order ws u s k j h t)
+
+    -- the slots before it start before l, those behind it do not; and so does it
     pub starts-there : k < u → slot ws k .logical < l → k + 1 ≡ startsBefore l (slotsFrom ws 0 u)
     starts-there h g =
         omega (
           arith,
           tally-below (λ x. ltb (x .logical) l) ws (k + 1) u
-              (λ j a b. lt-ltb (slot ws j .logical) l (by-cases (decLt j k) (λ t. omega (arith, found .low j t, sound-piece ws u s j b .some)) (λ t. let q : j ≡ k = omega arith in rw q g)))
+              (λ j a b. lt-ltb (slot ws j .logical) l (by-cases (decLt j k) (ahead j) (λ t. let at : j ≡ k = omega arith in rw at g)))
               (λ j a b. le-ltb (slot ws j .logical) l (behind j (omega arith) b)),
         )
-      where
-        behind : (j : ℕ) → k < j → j < u → l ≤ slot ws j .logical
-        behind j a b =
-            omega (arith, found .high k (omega arith) h, sound-order ws u s k j a b)
 
+    -- or it does not
     pub starts-later : (k < u → l ≤ slot ws k .logical) → k ≡ startsBefore l (slotsFrom ws 0 u)
     starts-later g =
         omega (
           arith,
           first-le,
           tally-below (λ x. ltb (x .logical) l) ws k u
-              (λ j a b. lt-ltb (slot ws j .logical) l (omega (arith, found .low j a, sound-piece ws u s j b .some)))
-              (λ j a b. le-ltb (slot ws j .logical) l (behind j a b)),
+              (λ j a b. lt-ltb (slot ws j .logical) l (ahead j a))
+              (λ j a b. le-ltb (slot ws j .logical) l (by-cases (decLt k j) (λ t. behind j t b) (λ t. let at : j ≡ k = omega arith in rw at (g (omega arith))))),
         )
-      where
-        behind : (j : ℕ) → k ≤ j → j < u → l ≤ slot ws j .logical
-        behind j a b =
-            by-cases (decLt k j)
-            (λ t. omega (arith, found .high k (omega arith) (omega arith), sound-order ws u s k j t b))
-            (λ t. let q : j ≡ k = omega arith in rw q (g (omega arith)))
 
 -- ---- what may be passed over
 
-from-skip : (ws : List ℕ) (u l k : ℕ) → k ≤ u → ((i : ℕ) → i < k → end (slot ws i) ≤ l) → (d i : ℕ) → i + d ≡ k → from l (slotsFrom ws i (u - i)) ≡ from l (slotsFrom ws k (u - k))
+from-skip : (ws : List ℕ) (u l k : ℕ) → k ≤ u → ((i : ℕ) → i < k → end (slot ws i) ≤ l) → (d i : ℕ) → i + d ≡ k
+    → from l (slotsFrom ws i (u - i)) ≡ from l (slotsFrom ws k (u - k))
 from-skip ws u l k b h zero i e = let at : i ≡ k = omega arith in rw at
 from-skip ws u l k b h (suc d) i e =
     ap (from l) (slots-first ws i u (omega arith)) ∙ from-none l (slot ws i) (slotsFrom ws (i + 1) (u - (i + 1))) (h i (omega arith))

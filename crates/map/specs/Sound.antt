@@ -1,6 +1,5 @@
 -- Extents that keep rules 1 and 2, as a contract asks for them: for some N and L, which the code does not need.
-use Prim.Native.Nat.{ℕ, suc, _+_, _≤_, _<_}
-use mathlib.Core.Path.{_≡_}
+use Prim.Native.Nat.{ℕ, _+_, _≤_, _<_}
 use mathlib.Core.List.{List}
 use native.Mathlib.Omega.{arith}
 use Rattle.rules.specs.Extents.{none, end, slot, slotsFrom}
@@ -28,6 +27,3 @@ module _ (ws : List ℕ) (u : ℕ) (s : Sound (slotsFrom ws 0 u)) where
   -- a slot ends before each later one begins
   pub sound-order : (i j : ℕ) → i < j → j < u → end (slot ws i) ≤ slot ws j .logical
   sound-order i j h t = rows-order (s .pages) (s .logical) ws u 0 0 none (s .rows) i j i j h t (omega arith) (omega arith)
-
-  pub sound-rises : (i j : ℕ) → j ≡ i + 1 → j < u → end (slot ws i) ≤ slot ws j .logical
-  sound-rises i j e h = let at : j ≡ suc i = omega arith in ranked .rising i j at h

@@ -17,7 +17,7 @@ use Rattle.laws.specs.Bools.{cases}
 use Rattle.laws.specs.Unique.{extent-path}
 use Rattle.laws.specs.Cut.{below, from, below-none, below-part, below-all, from-none, from-part, from-all}
 use Rattle.laws.specs.Slots.{slots-first}
-use Rattle.map.specs.Sound.{Sound, sound-piece, sound-rises}
+use Rattle.map.specs.Sound.{Sound, sound-piece, sound-order}
 use Rattle.map.specs.Halved.{endsBy, from-first}
 
 -- the extents from logical page l up to e, each clipped, and each maximal hole
@@ -175,8 +175,8 @@ module _ (ws : List ℕ) (u pos e i : ℕ) (sound : Sound (slotsFrom ws 0 u)) (h
       ap (between pos e) (slots-first ws i u h)
       ∙ between-more pos e (slot ws i) (slotsFrom ws (i + 1) (u - (i + 1))) (some i h) p s
       (λ t. from-slots (reaches pos e (slot ws i)) ws (i + 1) (u - (i + 1))
-      (λ m. (omega (arith, sound-rises ws u sound i (i + 1) refl (omega arith), some i h), some (i + 1) (omega arith))))
-      (λ t. below-slots e ws (i + 1) (u - (i + 1)) (λ m. omega (arith, sound-rises ws u sound i (i + 1) refl (omega arith))))
+      (λ m. (omega (arith, sound-order ws u sound i (i + 1) (omega arith) (omega arith), some i h), some (i + 1) (omega arith))))
+      (λ t. below-slots e ws (i + 1) (u - (i + 1)) (λ m. omega (arith, sound-order ws u sound i (i + 1) (omega arith) (omega arith))))
 
 -- no slot is left
 pub walk-over : (ws : List ℕ) (u pos e i : ℕ) → i ≡ u → between pos e (slotsFrom ws i (u - i)) ≡ withHole pos e []

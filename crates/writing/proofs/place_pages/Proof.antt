@@ -39,7 +39,8 @@ put-pieces-requires c κs =
     let w = p .before .before .before .before .before .before .before .before in
     let s = start w in
     let a = s .args in
-    puttable (a .number) (a .l) (a .n) (a .out .now) (state s) (s .pre .0) (a .m) (s .pre .1) _ _ _ (w .cut-range .ensures) _ _ _ _ (c .before .before .before .before .before .before .before .blk2 .given) (p .place .ensures)
+    puttable (a .number) (a .l) (a .n) (a .out .now) (state s) (s .pre .0) (a .m) (s .pre .1) _ _ _ (w .cut-range .ensures)
+    _ _ _ _ (c .before .before .before .before .before .before .before .blk2 .given) (p .place .ensures)
 
 cast-g : tie.Need-cast-g
 cast-g c =
