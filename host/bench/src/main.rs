@@ -3,6 +3,7 @@
 
 use std::process::ExitCode;
 
+use bench::lent::Sample;
 use bench::{calls, growth, map};
 
 fn main() -> ExitCode {
@@ -27,7 +28,7 @@ fn main() -> ExitCode {
         ["quick"] => {
             warn_of_emulation();
             print(calls::table(&calls::SAMPLES[..2]));
-            print(growth::table(&growth::SAMPLES[..1]));
+            print(growth::table(&[Sample { repeats: 101, ..growth::SAMPLES[0] }]));
             print(map::table(true));
         }
         _ => {
