@@ -54,11 +54,9 @@ module _ (c : Call) (s : Lent) (v : Verdict) (e : told v ≡ lentRefusal s) (f :
   both : (shaped s ≡ true) × (sound s ≡ true)
   both = lent-none s (sym (ap told f) ∙ e)
 
-  pub ready-shape : Shaped s
-  ready-shape = shaped-true s (both .0)
-
-  pub ready-sane : Sane s
-  ready-sane = sound-sane s ready-shape (both .1)
+  -- a state of the right shape, and a sound one
+  pub ready-state : Shaped s × Sane s
+  ready-state = let h = shaped-true s (both .0) in (h, sound-sane s h (both .1))
 
   plainly : verdict c s ≡ refusal c (deviceOf s)
   plainly = verdict-plain c s (both .0) (both .1)
@@ -68,7 +66,7 @@ module _ (c : Call) (s : Lent) (v : Verdict) (e : told v ≡ lentRefusal s) (f :
     pub ready : w ≡ Verdict.Accepted → Ready c s
     ready i =
         let z : refusal c (deviceOf s) ≡ 0 = sym (sym (ap told i) ∙ g ∙ h) in
-        record { shape = ready-shape; sane = ready-sane; passes = plainly ∙ z; taken = taken c (deviceOf s) z }
+        record { shape = ready-state .0; sane = ready-state .1; passes = plainly ∙ z; taken = taken c (deviceOf s) z }
 
     pub refuses : (t : Refusal) → w ≡ Verdict.Refused t → refused (number t) c s ≡ call c s
     refuses t i = call-refused c s t (plainly ∙ sym (sym (ap told i) ∙ g ∙ h))

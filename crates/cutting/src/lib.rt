@@ -12,11 +12,14 @@ ghost use Rattle.map.specs.Padded.{padded, Holds, Becomes};
 ghost use Rattle.map.specs.Clip.{clipRight, clipLeft, splitAt};
 ghost use Rattle.cutting.specs.Cutting.{Cuttable};
 
-// The slots from a up to z go, and those from z on move down.
+// The slots from a up to z go, and those from z on move down. Where none goes, none moves.
 fn close(ext: &mut [u32], used: usize, a: usize, z: usize)
     requires { ⌜ Holds (now ext) used × (a ≤ z) × (z ≤ used) ⌝ }
     ensures { λ _. ⌜ now (ext .exit) ≡ padded (length (now (ext .entry))) (take a (slotsFrom (now (ext .entry)) 0 used) ++ drop z (slotsFrom (now (ext .entry)) 0 used)) ⌝ }
 {
+    if z <= a {
+        return;
+    }
     let at = 3 * a;
     let top = 3 * used;
     words::shift_down(&mut ext[at..top], 3 * (z - a));

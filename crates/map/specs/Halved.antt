@@ -155,8 +155,8 @@ from-skip ws u l k b h (suc d) i e =
     ∙ from-skip ws u l k b h d (i + 1) (omega arith)
 
 -- the extents from l on are those from l on of the slots from that one on
-pub from-first : (ws : List ℕ) (u l k : ℕ) → Sound (slotsFrom ws 0 u) → k ≡ endsBy l (slotsFrom ws 0 u) → from l (slotsFrom ws 0 u) ≡ from l (slotsFrom ws k (u - k))
-from-first ws u l k s e =
+pub from-there : (ws : List ℕ) (u l k : ℕ) → Sound (slotsFrom ws 0 u) → k ≡ endsBy l (slotsFrom ws 0 u) → from l (slotsFrom ws 0 u) ≡ from l (slotsFrom ws k (u - k))
+from-there ws u l k s e =
     let z : u ≡ u - 0 = omega arith in
     let h = ends-first ws u l s k e in
     ap (λ (m : ℕ). from l (slotsFrom ws 0 m)) z ∙ from-skip ws u l k (omega (arith, h .inside)) (h .low) k 0 (omega arith)

@@ -145,6 +145,10 @@ module _ (ws : List ℕ) (u : ℕ) (h : Holds ws u) where
         ap₂ (λ (a b : List ℕ). a ++ b) (front i s) (ap₂ (λ (a b : List ℕ). a ++ b) new behind)
         ∙ laid-out (take i es) (extent l p c ∷ drop i es) (m - 3 * u - 3) one-more
 
+  -- no slots taken out
+  pub holds-same : (a z : ℕ) → a ≡ z → ws ≡ padded m (take a es ++ drop z es)
+  holds-same a z e = h .is ∙ ap (padded m) (sym (take-append-drop a es) ∙ ap (λ (j : ℕ). take a es ++ drop j es) e)
+
   -- the slots from a up to z taken out
   module _ (a z : ℕ) (s : a ≤ z) (t : z ≤ u) where
     all : length (flat (drop a es)) ≡ 3 * u - 3 * a

@@ -18,7 +18,7 @@ use Rattle.laws.specs.Unique.{extent-path}
 use Rattle.laws.specs.Cut.{below, from, below-none, below-part, below-all, from-none, from-part, from-all}
 use Rattle.laws.specs.Slots.{slots-first}
 use Rattle.map.specs.Sound.{Sound, sound-piece, sound-order}
-use Rattle.map.specs.Halved.{endsBy, from-first}
+use Rattle.map.specs.Halved.{endsBy, from-there}
 
 -- the extents from logical page l up to e, each clipped, and each maximal hole
 abbrev pub between : ℕ → ℕ → List Extent → List Extent
@@ -187,7 +187,7 @@ walk-over ws u pos e i h =
 
 -- a read may start at the first slot that ends after l
 pub walk-start : (l e i : ℕ) (ws : List ℕ) (u : ℕ) → Sound (slotsFrom ws 0 u) → i ≡ endsBy l (slotsFrom ws 0 u) → between l e (slotsFrom ws 0 u) ≡ between l e (slotsFrom ws i (u - i))
-walk-start l e i ws u s h = ap (λ (es : List Extent). withHoles l e (below e es)) (from-first ws u l i s h)
+walk-start l e i ws u s h = ap (λ (es : List Extent). withHoles l e (below e es)) (from-there ws u l i s h)
 
 -- ---- how many pieces it finds: k so far
 

@@ -104,8 +104,8 @@ mod tests {
 
     /// Where a place is walked to from the first slot, a read of few pages takes a fifth
     /// of the test and more beyond it, a trim and a write near half of it. Found by
-    /// halving, a read takes a fiftieth at most, and what is left of the others is moving
-    /// the slots behind the range.
+    /// halving, a read took a fiftieth at most where it was measured, and what is left of
+    /// the others is moving the slots behind the range.
     #[test]
     fn places_are_found_and_not_walked_to() {
         let (test, beyond) = measure(&Sample { repeats: 101, ..SAMPLES[2] });

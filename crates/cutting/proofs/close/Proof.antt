@@ -1,9 +1,15 @@
--- The lent part comes back moved down.
-use Rattle.map.specs.Padded.{holds-close}
+-- Nothing goes, or the lent part comes back moved down.
+use Rattle.map.specs.Padded.{holds-same, holds-close}
 use native.Mathlib.Omega.{arith}
 use borrow.Author.Needs.{needs}
 use Rattle.cutting.proofs.close.Statement.{statement}
 use Rattle.cutting.proofs.close.Tie as tie
+
+returns : tie.Need-returns
+returns c =
+    let s = c .before .before in
+    let a = s .args in
+    holds-same (a .ext .now) (a .used) (s .pre .0) (a .a) (a .z) (omega arith)
 
 mul-at : tie.Need-mul-at
 mul-at c = search needs
@@ -35,13 +41,17 @@ shift-down-requires c κs = search needs
 same-length : tie.Need-same-length
 same-length c = search needs
 
-returns : tie.Need-returns
-returns c = holds-close (c .before .before .before .before .before .args .ext .now) (c .before .before .before .before .before .args .used) (c .before .before .before .before .before .pre .0) (c .before .before .before .before .before .args .a) (c .before .before .before .before .before .args .z) (omega arith) (omega arith) _ (c .before .before .shift-down .ensures)
+returns-2 : tie.Need-returns-2
+returns-2 c =
+    let s = c .before .before .before .before .before .before in
+    let a = s .args in
+    holds-close (a .ext .now) (a .used) (s .pre .0) (a .a) (a .z) (omega arith) (omega arith) _ (c .before .before .shift-down .ensures)
 
 pub close-spec : {M : Type 1} → statement M
 close-spec =
     tie.close
     (tie.spec
+    returns
     mul-at
     mul-top
     mul-shift-down
@@ -52,4 +62,4 @@ close-spec =
     mul-shift-down-2
     shift-down-requires
     same-length
-    returns)
+    returns-2)

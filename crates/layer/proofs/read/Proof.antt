@@ -7,7 +7,7 @@ use Rattle.rules.specs.Calls.{Call, refused}
 use Rattle.laws.specs.Sane.{Shaped, Sane}
 use Rattle.verdicts.specs.Refusals.{lent-refuses}
 use Rattle.verdicts.specs.Reading.{rows-sound}
-use Rattle.accepted.specs.Accepts.{Ready, read-room, ready-shape, ready-sane, ready, refuses, accepts}
+use Rattle.accepted.specs.Accepts.{Ready, read-room, ready-state, ready, refuses, accepts}
 use Rattle.accepted.specs.Reads.{read-counts, read-lists, read-leaves}
 use Rattle.verdicts.specs.declared.Verdict.{Verdict}
 use mathlib.Core.Path.{_≡_}
@@ -24,11 +24,8 @@ state s = lent (s .args .h) (s .args .ext .now) (s .args .blk .now) (s .args .sp
 abbrev start : tie.After-enum-told → tie.Start
 start t = t .before .before .before .before .before .before .before
 
-shape : (t : tie.After-enum-told) → Shaped (state (start t))
-shape t = ready-shape (asks (start t)) (state (start t)) _ (t .before .before .lent-verdict .ensures) (t .enum-told .given .1)
-
-sane : (t : tie.After-enum-told) → Sane (state (start t))
-sane t = ready-sane (asks (start t)) (state (start t)) _ (t .before .before .lent-verdict .ensures) (t .enum-told .given .1)
+held : (t : tie.After-enum-told) → Shaped (state (start t)) × Sane (state (start t))
+held t = ready-state (asks (start t)) (state (start t)) _ (t .before .before .lent-verdict .ensures) (t .enum-told .given .1)
 
 -- and the second
 accepted : (w : tie.After-read-verdict) → w .read-verdict .result ≡ Verdict.Accepted → let s = start (w .before .before .before) in Ready (asks s) (state s)
@@ -59,12 +56,12 @@ cast-first-after c = search needs
 first-after-requires : tie.Need-first-after-requires
 first-after-requires c κs =
     let t = c .before in
-    (omega (arith, shape t .extents, sane t .few), rows-sound (state (start t)) (shape t) (sane t))
+    (omega (arith, held t .0 .extents, held t .1 .few), rows-sound (state (start t)) (held t .0) (held t .1))
 
 read-verdict-requires : tie.Need-read-verdict-requires
 read-verdict-requires c κs =
     let t = c .before .before in
-    (shape t, sane t, c .first-after .ensures)
+    (held t .0, held t .1, c .first-after .ensures)
 
 enum-known-w : tie.Need-enum-known-w
 enum-known-w c = search needs

@@ -7,7 +7,7 @@ use Rattle.rules.specs.Calls.{Call, refused}
 use Rattle.laws.specs.Sane.{Shaped, Sane}
 use Rattle.verdicts.specs.Refusals.{lent-refuses}
 use Rattle.reclaimable.specs.Reclaiming.{sane-records, found-victim}
-use Rattle.accepted.specs.Accepts.{reclaim-room, ready-shape, ready-sane, ready, refuses}
+use Rattle.accepted.specs.Accepts.{reclaim-room, ready-state, ready, refuses}
 use Rattle.layer.proofs.reclaim.Statement.{statement}
 use Rattle.layer.proofs.reclaim.Tie as tie
 
@@ -21,15 +21,12 @@ state s = lent (s .args .h) (s .args .ext .now) (s .args .blk .now) (s .args .sp
 abbrev start : tie.After-enum-told → tie.Start
 start t = t .before .before .before .before .before .before .before .before .before .before
 
-shape : (t : tie.After-enum-told) → Shaped (state (start t))
-shape t = ready-shape (asks (start t)) (state (start t)) _ (t .before .before .lent-verdict .ensures) (t .enum-told .given .1)
-
-sane : (t : tie.After-enum-told) → Sane (state (start t))
-sane t = ready-sane (asks (start t)) (state (start t)) _ (t .before .before .lent-verdict .ensures) (t .enum-told .given .1)
+held : (t : tie.After-enum-told) → Shaped (state (start t)) × Sane (state (start t))
+held t = ready-state (asks (start t)) (state (start t)) _ (t .before .before .lent-verdict .ensures) (t .enum-told .given .1)
 
 -- where the victim is found
 found : (v : tie.After-victim-of) → v .victim-of .result ≡ victim (deviceOf (state (start (v .before .before))))
-found v = let t = v .before .before in v .victim-of .ensures ∙ found-victim (state (start t)) (shape t) (sane t)
+found v = let t = v .before .before in v .victim-of .ensures ∙ found-victim (state (start t)) (held t .0) (held t .1)
 
 lent-verdict-requires : tie.Need-lent-verdict-requires
 lent-verdict-requires c κs = search needs
@@ -56,13 +53,13 @@ enum-told : tie.Need-enum-told
 enum-told c = search needs
 
 victim-of-requires : tie.Need-victim-of-requires
-victim-of-requires c κs = let t = c .before in sane-records (state (start t)) (shape t) (sane t)
+victim-of-requires c κs = let t = c .before in sane-records (state (start t)) (held t .0) (held t .1)
 
 reclaim-verdict-requires : tie.Need-reclaim-verdict-requires
 reclaim-verdict-requires c κs =
     let v = c .before .before .before in
     let t = v .before .before in
-    ((shape t, sane t), found v)
+    (held t, found v)
 
 enum-known-w : tie.Need-enum-known-w
 enum-known-w c = search needs

@@ -4,7 +4,7 @@ use Rattle.rules.specs.Device.{deviceOf}
 use Rattle.rules.specs.Calls.{Call, refused}
 use Rattle.laws.specs.Sane.{Shaped, Sane}
 use Rattle.verdicts.specs.Refusals.{lent-refuses}
-use Rattle.accepted.specs.Accepts.{write-room, ready-shape, ready-sane, ready, refuses}
+use Rattle.accepted.specs.Accepts.{write-room, ready-state, ready, refuses}
 use Rattle.layer.proofs.write.Statement.{statement}
 use Rattle.layer.proofs.write.Tie as tie
 
@@ -18,11 +18,8 @@ state s = lent (s .args .h) (s .args .ext .now) (s .args .blk .now) (s .args .sp
 abbrev start : tie.After-enum-told → tie.Start
 start t = t .before .before .before .before .before .before .before .before .before .before
 
-shape : (t : tie.After-enum-told) → Shaped (state (start t))
-shape t = ready-shape (asks (start t)) (state (start t)) _ (t .before .before .lent-verdict .ensures) (t .enum-told .given .1)
-
-sane : (t : tie.After-enum-told) → Sane (state (start t))
-sane t = ready-sane (asks (start t)) (state (start t)) _ (t .before .before .lent-verdict .ensures) (t .enum-told .given .1)
+held : (t : tie.After-enum-told) → Shaped (state (start t)) × Sane (state (start t))
+held t = ready-state (asks (start t)) (state (start t)) _ (t .before .before .lent-verdict .ensures) (t .enum-told .given .1)
 
 lent-verdict-requires : tie.Need-lent-verdict-requires
 lent-verdict-requires c κs = search needs
@@ -51,13 +48,13 @@ enum-told c = search needs
 meeting-of-requires : tie.Need-meeting-of-requires
 meeting-of-requires c κs =
     let t = c .before .before .before in
-    (shape t, sane t)
+    held t
 
 write-verdict-requires : tie.Need-write-verdict-requires
 write-verdict-requires c κs =
     let m = c .before .before .before in
     let t = m .before .before .before .before in
-    (shape t, sane t, m .meeting-of .ensures)
+    (held t .0, held t .1, m .meeting-of .ensures)
 
 enum-known-w : tie.Need-enum-known-w
 enum-known-w c = search needs
