@@ -69,7 +69,7 @@
  *   times as long as one sum over these words with few extents in use and 3.8 times with
  *   8,192. That sum is of 1.1 MB. On Arm, with the library recompiled, a read, a trim and a
  *   write of 48 pages took up to 1.1 times as long as a report there, a read of all pages up
- *   to 1.3 times and a reclaim up to 1.6 times (docs/BENCHMARK.md).
+ *   to 1.3 times and a reclaim up to 1.7 times (docs/BENCHMARK.md).
  *
  * Crashes
  *   The library keeps nothing, so what a crash leaves is what the host made durable, and in

@@ -30,7 +30,7 @@
 //! Every call but fresh tests the whole state, so it reads every word of it: 3M + 2B + B x N. On the largest device a
 //! report, which is hardly more than the test, took 1.2 times as long as one sum over these words with few extents in
 //! use and 3.8 times with 8,192. On Arm, with the library recompiled, a read, a trim and a write of 48 pages took up to
-//! 1.1 times as long as a report there, a read of all pages up to 1.3 times and a reclaim up to 1.6 times. 8 KB of stack
+//! 1.1 times as long as a report there, a read of all pages up to 1.3 times and a reclaim up to 1.7 times. 8 KB of stack
 //! do for any of them but a read over records, which takes 98,304 bytes more.
 //!
 //! # A request sent again
