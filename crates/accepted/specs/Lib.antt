@@ -3,3 +3,6 @@ pub mod Report
 pub mod Accepts
 pub mod Reads
 pub mod Trims
+pub mod Puts
+pub mod Writes
+pub mod Reclaims

@@ -15,8 +15,8 @@ use Rattle.laws.specs.Shapes.{shaped-true}
 use Rattle.laws.specs.Sanes.{sound-sane}
 use Rattle.laws.specs.Kept.{device-is}
 use Rattle.verdicts.specs.Refusals.{verdict-plain, call-accepted}
-use Rattle.counts.specs.Totals.{Filled, Totalled, sane-filled, device-free, device-live, device-stale}
-use Rattle.counts.specs.declared.Totals.{Totals}
+use Rattle.blocks.specs.Totals.{Filled, Totalled, sane-filled, device-free, device-live, device-stale}
+use Rattle.blocks.specs.declared.Totals.{Totals}
 
 module _ (s : Lent) (e : (shaped s ≡ true) × (sound s ≡ true)) where
   shape : Shaped s

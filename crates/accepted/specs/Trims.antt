@@ -14,9 +14,10 @@ use Rattle.rules.specs.Extents.{none, lookup, slot, flat}
 use Rattle.rules.specs.Blocks.{validWord}
 use Rattle.rules.specs.Lent.{Lent, lent, inUse, fillOf, validOf}
 use Rattle.rules.specs.Device.{Device, blocks, at, mapped, valid, extents, deviceOf, headOf, wordsOf}
-use Rattle.rules.specs.Request.{withTable, trimmed}
+use Rattle.rules.specs.Request.{kept, withTable, trimmed}
 use Rattle.rules.specs.Calls.{Call, counts, leaves, lists, over}
 use Rattle.rules.specs.declared.Head.{Head}
+use Rattle.rules.specs.declared.Last.{Last}
 use Rattle.rules.specs.declared.Extent.{Extent}
 use Rattle.laws.specs.Sums.{sum-zero, count-same}
 use Rattle.laws.specs.Sane.{Shaped, Sane}
@@ -33,7 +34,7 @@ use Rattle.map.specs.Padded.{padded, Becomes, zeros-holds}
 use Rattle.map.specs.Sound.{Sound}
 use Rattle.cutting.specs.Cutting.{Cuttable}
 use Rattle.verdicts.specs.Reading.{rows-sound}
-use Rattle.blocks.specs.Lowered.{Lowered, Lowerable, total-enough}
+use Rattle.striking.specs.Lowered.{Lowered, Lowerable, total-enough}
 use Rattle.accepted.specs.Accepts.{Ready}
 
 -- lines l, l + 1, .., n of them, can be cut out of the state
@@ -181,20 +182,20 @@ module _ (k l n : ℕ) (s : Lent) (z : Ready (Call.trim k l n) s) where
     nodes = omega (arith, z .taken .nodes, same-slots, ap length same-extents);
   }
 
-  abbrev trimHead : ℕ → Head
-  trimHead used = record {
+  abbrev trimHead : ℕ → Last → Head
+  trimHead used last = record {
     blocks = s .head .blocks;
     pages = s .head .pages;
     logical = s .head .logical;
     slots = s .head .slots;
     used = used;
     reserve = s .head .reserve;
-    last = k;
+    last = last;
   }
 
-  pub trim-leaves : (used : ℕ) (ext blk : List ℕ) → Holed l n s used ext blk → lent (trimHead used) ext blk (s .spare) ≡ wordsOf (leaves (Call.trim k l n) (deviceOf s))
+  pub trim-leaves : (used : ℕ) (last : Last) (ext blk : List ℕ) → Holed l n s used ext blk → last ≡ kept k → lent (trimHead used last) ext blk (s .spare) ≡ wordsOf (leaves (Call.trim k l n) (deviceOf s))
   unfolding leaves wordsOf headOf trimmed withTable deviceOf extents valid mapped
-  trim-leaves used ext blk w = λ i. lent
+  trim-leaves used last ext blk w g = λ i. lent
       (record {
         blocks = sym (device-blocks s) i;
         pages = s .head .pages;
@@ -202,7 +203,7 @@ module _ (k l n : ℕ) (s : Lent) (z : Ready (Call.trim k l n) s) where
         slots = s .head .slots;
         used = (w .map .used ∙ ap length (cut-extents l n s trim-cut)) i;
         reserve = s .head .reserve;
-        last = k;
+        last = g i;
       })
       (cut-words l n s trim-cut ext (w .map .is) i)
       (w .blocks i)

@@ -1,8 +1,11 @@
-// What fresh, a report, a read and a trim do once nothing refuses them.
+// What each call does once nothing refuses it. That nothing does is required here (`Ready`), with what was found on the way to it; the answer
+// and the words are promised as the rules give them.
 use map::Sides;
 use rules::Counted;
 use rules::Done;
 use rules::Head;
+use rules::Listed;
+use writable::Meeting;
 ghost use mathlib.Core.Path.{_≡_};
 ghost use mathlib.Core.Bool.{true};
 ghost use mathlib.Core.List.{[]};
@@ -11,14 +14,16 @@ ghost use Prim.Native.Nat.{_+_};
 ghost use Rattle.rules.specs.Lent.{lent, inUse};
 ghost use Rattle.rules.specs.Shape.{shape, shaped};
 ghost use Rattle.rules.specs.Sound.{sound};
-ghost use Rattle.rules.specs.Answers.{outcome, done, counted};
-ghost use Rattle.rules.specs.Calls.{Call, call, fresh};
+ghost use Rattle.rules.specs.Answers.{outcome, done, counted, listed};
+ghost use Rattle.rules.specs.Calls.{Call, call, sizesOnly, fresh};
 ghost use Rattle.map.specs.Halved.{endsBy};
 ghost use Rattle.map.specs.Around.{Beside};
 ghost use Rattle.accepted.specs.Accepts.{Ready};
-ghost use Rattle.accepted.specs.Fresh.{given};
 ghost use Rattle.accepted.specs.Reads.{ListedPieces};
 ghost use Rattle.accepted.specs.Trims.{Cut, Holed};
+ghost use Rattle.writable.specs.Meeting.{Meets};
+ghost use Rattle.rules.specs.Device.{deviceOf};
+ghost use Rattle.rules.specs.Reclaim.{victim};
 
 // A fresh device of sizes that fit: no extents, nothing programmed, the last block in reserve.
 pub fn make_fresh(
@@ -30,21 +35,15 @@ pub fn make_fresh(
     blk: &mut [u32],
     spare: &mut [u32],
 ) -> Done
-    requires { ⌜ shape (given b n l m) (length (now ext)) (length (now blk)) (length (now spare)) ≡ true ⌝ }
+    requires { ⌜ shape (sizesOnly b n l m) (length (now ext)) (length (now blk)) (length (now spare)) ≡ true ⌝ }
     ensures { λ r. ⌜ outcome (done r) (now (ext .exit)) (now (blk .exit)) (now (spare .exit)) [] ≡ fresh b n l m (now (ext .entry)) (now (blk .entry)) (now (spare .entry)) ⌝ }
 {
     words::fill_with(ext, 0);
     words::fill_with(blk, 0);
     words::fill_with(spare, 4294967295);
-    Done::Accepted(Head {
-        blocks: b,
-        pages: n,
-        logical: l,
-        slots: m,
-        used: 0,
-        reserve: b - 1,
-        last: 0,
-    })
+    let mut h = rules::sizes_only(b, n, l, m);
+    h.reserve = b - 1;
+    Done::Accepted(h)
 }
 
 // A report that nothing refuses.
@@ -52,7 +51,7 @@ pub fn count_pages(h: Head, ext: &[u32], blk: &[u32], spare: &[u32]) -> Counted
     requires { ⌜ (shaped (lent h (now ext) (now blk) (now spare)) ≡ true) × (sound (lent h (now ext) (now blk) (now spare)) ≡ true) ⌝ }
     ensures { λ r. ⌜ outcome (counted r) (now (ext .entry)) (now (blk .entry)) (now (spare .entry)) [] ≡ call Call.report (lent h (now (ext .entry)) (now (blk .entry)) (now (spare .entry))) ⌝ }
 {
-    let t = counts::totals_of(h, blk);
+    let t = blocks::totals_of(h, blk);
     Counted::Accepted(t.free, t.live, t.stale, h)
 }
 
@@ -70,7 +69,7 @@ pub fn list_pieces(
     requires { ⌜ Ready (Call.read l n (now out)) (lent h (now ext) (now blk) (now spare)) × (first ≡ endsBy l (inUse (lent h (now ext) (now blk) (now spare)))) ⌝ }
     ensures { λ k. ⌜ ListedPieces l n (lent h (now (ext .entry)) (now (blk .entry)) (now (spare .entry))) k (now (out .entry)) (now (out .exit)) ⌝ }
 {
-    listing::list_found(ext, h.used as usize, first, l, l + n, out) as u32
+    reading::list_found(ext, h.used as usize, first, l, l + n, out) as u32
 }
 
 // The range, whose sides are given, becomes holes: a trim that nothing refuses, and the first part of a write. The extents in use afterwards.
@@ -87,6 +86,58 @@ pub fn cut_range(
     ensures { λ u. ⌜ Holed l n (lent h (now (ext .entry)) (now (blk .entry)) (now (spare .entry))) u (now (ext .exit)) (now (blk .exit)) ⌝ }
 {
     let used = h.used as usize;
-    blocks::lower(ext, used, sides.first, h.pages, l, l + n, blk);
+    striking::lower(ext, used, sides.first, h.pages, l, l + n, blk);
     cutting::cut_out(ext, used, sides, l, l + n) as u32
+}
+
+// A write that nothing refuses and that meets the extents so: the range is cut out, the pages are placed, and the pieces are put in.
+pub fn place_pages(
+    h: Head,
+    ext: &mut [u32],
+    blk: &mut [u32],
+    spare: &mut [u32],
+    m: Meeting,
+    number: u64,
+    l: u32,
+    n: u32,
+    out: &mut [u32],
+) -> Listed
+    requires { ⌜ Ready (Call.write number l n (now out)) (lent h (now ext) (now blk) (now spare)) × Meets l n (lent h (now ext) (now blk) (now spare)) m ⌝ }
+    ensures { λ r. ⌜ outcome (listed r) (now (ext .exit)) (now (blk .exit)) (now (spare .exit)) (now (out .exit)) ≡ call (Call.write number l n (now (out .entry))) (lent h (now (ext .entry)) (now (blk .entry)) (now (spare .entry))) ⌝ }
+{
+    let sides = m.sides;
+    let left = cut_range(h, ext, blk, spare, sides, l, n);
+    let k = placing::place(blk, spare, out, h.blocks, h.pages, h.reserve, l, n);
+    let used = putting::put_pieces(ext, left as usize, sides.before, m.joined, out, k as usize);
+    let mut g = h;
+    g.used = used as u32;
+    g.last = rules::kept(number);
+    Listed::Accepted(k, g)
+}
+
+// A reclaim that nothing refuses: the mapped pages of its victim, block v, listed, and everything about them moved into the reserve.
+pub fn empty_victim(
+    h: Head,
+    ext: &mut [u32],
+    blk: &mut [u32],
+    spare: &mut [u32],
+    v: u32,
+    out: &mut [u32],
+) -> Listed
+    requires { ⌜ Ready (Call.reclaim (now out)) (lent h (now ext) (now blk) (now spare)) ⌝ }
+    requires { ⌜ v ≡ victim (deviceOf (lent h (now ext) (now blk) (now spare))) ⌝ }
+    ensures { λ r. ⌜ outcome (listed r) (now (ext .exit)) (now (blk .exit)) (now (spare .exit)) (now (out .exit)) ≡ call (Call.reclaim (now (out .entry))) (lent h (now (ext .entry)) (now (blk .entry)) (now (spare .entry))) ⌝ }
+{
+    let used = h.used as usize;
+    let n = h.pages;
+    let ranks = choosing::ranks_of(ext, used, n, v);
+    let k = ranks[n as usize];
+    choosing::list_sources(&ranks, n, v, out);
+    reclaiming::move_labels(spare, out, k as usize, n, h.reserve, v);
+    reclaiming::move_blocks(blk, h.reserve, v);
+    let nodes = reclaiming::move_map(ext, used, n, v, h.reserve, &ranks);
+    let mut after = h;
+    after.used = nodes as u32;
+    after.reserve = v;
+    Listed::Accepted(k, after)
 }

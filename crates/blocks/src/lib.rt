@@ -1,82 +1,89 @@
-// The valid counts of the blocks, changed in place: what they lose where a range is cut out of the extents.
+// The block records: does each stand as rules 3 and 5 ask, and what do they come to? `totals_of` takes those of a sound state.
+use rules::Head;
 ghost use mathlib.Core.Path.{_≡_};
-ghost use Prim.Native.Nat.{_+_, _-_, _*_, _/_, _<_, _≤_, min, max};
-ghost use mathlib.Core.List.{[], _∷_};
-ghost use lib.ListN.{length};
-ghost use Rattle.rules.specs.Extents.{slot, slotsFrom};
-ghost use Rattle.rules.specs.Blocks.{stride, validWord};
-ghost use Rattle.laws.specs.Tallies.{overlap};
-ghost use Rattle.map.specs.Halved.{endsBy};
-ghost use Rattle.blocks.specs.Lowered.{Lowered, Lowerable};
+ghost use Prim.Native.Nat.{ℕ, _<_, _≤_};
+ghost use Rattle.words.specs.Says.{Says};
+ghost use Rattle.blocks.specs.Block.{Labels, Framed, Block};
+ghost use Rattle.blocks.specs.Totals.{Filled, Totalled, roomLeft};
 
-fn later(a: u32, b: u32) -> u32
-    ensures { λ r. ⌜ r ≡ max a b ⌝ }
+// Rule 3 for one block: its fill, and the spare entries of its pages.
+fn block_ok(fill: u32, part: &[u32], top: u32) -> bool
+    ensures { λ r. ⌜ Says r (Labels fill top (now (part .entry))) ⌝ }
 {
-    if a < b {
-        return b;
+    let f = fill as usize;
+    if f > part.len() {
+        return false;
     }
-    a
+    if !words::all_below(&part[..f], top) {
+        return false;
+    }
+    words::all_are(&part[f..], 4294967295)
 }
 
-fn sooner(a: u64, b: u32) -> u32
-    ensures { λ r. ⌜ r ≡ min a b ⌝ }
+// Rules 3 and 5 for every block.
+pub fn blocks_ok(
+    blk: &[u32],
+    spare: &[u32],
+    blocks: usize,
+    n: usize,
+    top: u32,
+    tally: &[u32],
+) -> bool
+    requires { ⌜ Framed (now blk) (now spare) (now tally) blocks n ⌝ }
+    ensures { λ r. ⌜ Says r ((b : ℕ) → b < blocks → Block (now (blk .entry)) (now (spare .entry)) (now (tally .entry)) n top b) ⌝ }
 {
-    if a < (b as u64) {
-        return a as u32;
+    let mut b: usize = 0;
+    while b < blocks {
+        let from = b * n;
+        let to = from + n;
+        if !block_ok(words::fill_of(blk, b), &spare[from..to], top) {
+            return false;
+        }
+        if words::valid_of(blk, b) != tally[b] {
+            return false;
+        }
+        b += 1;
     }
-    b
+    true
 }
 
-// How many pages of slot i lie from l up to e.
-fn overlap_of(ext: &[u32], i: usize, l: u32, e: u32) -> u32
-    requires { ⌜ 3 * i + 2 < length (now ext) ⌝ }
-    ensures { λ r. ⌜ r ≡ overlap (slot (now (ext .entry)) i) l e ⌝ }
+pub struct Totals {
+    pub free: u32,
+    pub live: u32,
+    pub stale: u32,
+}
+
+// The pages that block b has left for a write, its fill being f: none in the reserve.
+fn room_of(h: Head, b: usize, f: u32) -> u32
+    requires { ⌜ f ≤ h .pages ⌝ }
+    ensures { λ r. ⌜ r ≡ roomLeft h b f ⌝ }
 {
-    let at = 3 * i;
-    let start = later(ext[at], l);
-    let stop = sooner(map::end_of(ext, i), e);
-    if stop <= start {
+    if b == h.reserve as usize {
         return 0;
     }
-    stop - start
+    h.pages - f
 }
 
-// A valid count without the pages that are gone, each of them struck off once.
-fn without(valid: u32, gone: u32) -> u32
-    requires { ⌜ gone ≤ valid ⌝ }
-    ensures { λ r. ⌜ r ≡ valid - gone ⌝ }
+// Free, live and stale, from the block records of a sound state.
+pub fn totals_of(h: Head, blk: &[u32]) -> Totals
+    requires { ⌜ Filled h (now blk) ⌝ }
+    ensures { λ r. ⌜ Totalled h (now (blk .entry)) r ⌝ }
 {
-    valid - gone
-}
-
-// The block of slot i loses the slot's pages from l up to e.
-fn lower_slot(ext: &[u32], i: usize, pages: u32, l: u32, e: u32, blk: &mut [u32])
-    requires { ⌜ (3 * i + 2 < length (now ext)) × (0 < pages) × (stride * (slot (now ext) i .physical / pages) + 1 < length (now blk)) × (overlap (slot (now ext) i) l e ≤ validWord (now blk) (slot (now ext) i .physical / pages)) ⌝ }
-    ensures { λ _. ⌜ Lowered pages l e (slot (now (ext .entry)) i ∷ []) (now (blk .entry)) (now (blk .exit)) ⌝ }
-{
-    let gone = overlap_of(ext, i, l, e);
-    if gone < 1 {
-        return;
+    let mut free: u32 = 0;
+    let mut live: u32 = 0;
+    let mut stale: u32 = 0;
+    let mut b: usize = 0;
+    while b < h.blocks as usize {
+        let f = words::fill_of(blk, b);
+        let v = words::valid_of(blk, b);
+        free += room_of(h, b, f);
+        live += v;
+        stale += f - v;
+        b += 1;
     }
-    let at = 3 * i;
-    let b = (ext[at + 1] / pages) as usize;
-    let valid = words::valid_of(blk, b);
-    words::put_valid(blk, b, without(valid, gone));
-}
-
-// Each block loses the pages that extents in use have in it from l up to e. The first slot that ends after l is `first`; those from the
-// first that starts at e or later on have none.
-pub fn lower(ext: &[u32], used: usize, first: usize, pages: u32, l: u32, e: u32, blk: &mut [u32])
-    requires { ⌜ Lowerable (now ext) used pages l e (now blk) × (first ≡ endsBy l (slotsFrom (now ext) 0 used)) ⌝ }
-    ensures { λ _. ⌜ Lowered pages l e (slotsFrom (now (ext .entry)) 0 used) (now (blk .entry)) (now (blk .exit)) ⌝ }
-{
-    let mut i = first;
-    while i < used {
-        let at = 3 * i;
-        if e <= ext[at] {
-            return;
-        }
-        lower_slot(ext, i, pages, l, e, blk);
-        i += 1;
+    Totals {
+        free: free,
+        live: live,
+        stale: stale,
     }
 }

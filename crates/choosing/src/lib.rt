@@ -3,7 +3,7 @@ ghost use mathlib.Core.Path.{_≡_};
 ghost use Prim.Native.Nat.{ℕ, _+_, _*_, _%_, _<_, _≤_};
 ghost use lib.ListN.{length, getD};
 ghost use Rattle.rules.specs.Counting.{most, count};
-ghost use Rattle.rules.specs.Blocks.{stride, fillWord, validWord};
+ghost use Rattle.rules.specs.Blocks.{stride, fillWord, validWord, HasBlock};
 ghost use Rattle.rules.specs.Extents.{none, slot, slotsFrom};
 ghost use Rattle.rules.specs.Calls.{over};
 ghost use Rattle.words.specs.Store.{stored};
@@ -13,7 +13,7 @@ ghost use Rattle.choosing.specs.Ranks.{Ranks, rises, marked, Marks, sums
 ghost use Rattle.choosing.specs.Sources.{livePages};
 
 pub fn stale_of(blk: &[u32], b: usize) -> u32
-    requires { ⌜ (stride * b + 1 < length (now blk)) × (validWord (now blk) b ≤ fillWord (now blk) b) ⌝ }
+    requires { ⌜ (HasBlock (now blk) b) × (validWord (now blk) b ≤ fillWord (now blk) b) ⌝ }
     ensures { λ s. ⌜ s ≡ staleWord (now (blk .entry)) b ⌝ }
 {
     words::fill_of(blk, b) - words::valid_of(blk, b)

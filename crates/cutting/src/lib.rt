@@ -1,5 +1,6 @@
 // A range cut out of the extents, in place.
 use map::Sides;
+use rules::Extent;
 ghost use mathlib.Core.Path.{_≡_};
 ghost use Prim.Native.Nat.{ℕ, _+_, _*_, _<_, _≤_};
 ghost use mathlib.Core.List.{_++_};
@@ -38,9 +39,14 @@ fn clip_right(ext: &mut [u32], used: usize, a: usize, l: u32)
         return;
     }
     let at = 3 * i;
-    let q = ext[at];
+    let start = ext[at];
     let p = ext[at + 1];
-    map::put(ext, used, i, q, p, l - q);
+    let left = Extent {
+        logical: start,
+        physical: p,
+        count: l - start,
+    };
+    words::put_slot(ext, i, left);
 }
 
 // The extent in slot z, where there is one, ends after e begins. It starts there at the earliest.
@@ -58,7 +64,12 @@ fn clip_left(ext: &mut [u32], used: usize, z: usize, e: u32)
     }
     let p = ext[at + 1];
     let c = ext[at + 2];
-    map::put(ext, used, z, e, p + (e - q), c - (e - q));
+    let right = Extent {
+        logical: e,
+        physical: p + (e - q),
+        count: c - (e - q),
+    };
+    words::put_slot(ext, z, right);
 }
 
 // The extent in slot i, which starts before l and ends after e begins, is taken apart.
@@ -71,7 +82,12 @@ fn split(ext: &mut [u32], used: usize, i: usize, l: u32, e: u32)
     let p = ext[at + 1];
     let c = ext[at + 2];
     map::insert(ext, used, i + 1, e, p + (e - q), c - (e - q));
-    map::put(ext, used + 1, i, q, p, l - q);
+    let left = Extent {
+        logical: q,
+        physical: p,
+        count: l - q,
+    };
+    words::put_slot(ext, i, left);
 }
 
 // The extents without the logical pages from l up to e, whose sides are given. The slots then in use are returned.

@@ -15,6 +15,7 @@ use Rattle.rules.specs.Sound.{sound}
 use Rattle.rules.specs.Device.{free, live, stale, extents, deviceOf}
 use Rattle.rules.specs.Answers.{Outcome, number}
 use Rattle.rules.specs.Calls.{Call, leaves, lists, buffer, acceptedOn, call, fresh}
+use Rattle.rules.specs.Request.{kept}
 use Rattle.rules.specs.declared.Refusal.{Refusal}
 use Rattle.demands.specs.Requests.{isWrite, numberOf, startOf, countOf}
 
@@ -41,7 +42,7 @@ given c s Refusal.Damaged = not (sound s)
 -- n = 0, l + n > L as whole numbers, or a write with n > N
 given c s Refusal.Range = eqb (countOf c) 0 || ltb (s .head .logical) (startOf c + countOf c) || (isWrite c && ltb (s .head .pages) (countOf c))
 -- number not above the last number
-given c s Refusal.Applied = leb (numberOf c) (s .head .last)
+given c s Refusal.Applied = leb (numberOf c) (s .head .last .number)
 -- n > free
 given c s Refusal.NoPages = ltb (free (deviceOf s)) (countOf c)
 -- the map afterwards, joined, has more than M extents
@@ -79,10 +80,10 @@ pub record FreshAnswers (b n l m : ℕ) (extentWords blockWords spare : List ℕ
   pub refusal : o .refusal ≡ cond (sizes b n l m && lengths b n m (length extentWords) (length blockWords) (length spare)) 0 1
   -- refused, its head holds the four sizes as given and zero elsewhere, and no word changes
   pub refused : (o .refusal ≡ 0 → ⊥)
-      → o .after ≡ lent (record { blocks = b; pages = n; logical = l; slots = m; used = 0; reserve = 0; last = 0 }) extentWords blockWords spare
+      → o .after ≡ lent (record { blocks = b; pages = n; logical = l; slots = m; used = 0; reserve = 0; last = kept 0 }) extentWords blockWords spare
   -- no extents, all slots zero, all fills and valid counts 0, all spare erased, reserve B-1, last number 0
   pub accepted : o .refusal ≡ 0
-      → o .after ≡ lent (record { blocks = b; pages = n; logical = l; slots = m; used = 0; reserve = b - 1; last = 0 })
+      → o .after ≡ lent (record { blocks = b; pages = n; logical = l; slots = m; used = 0; reserve = b - 1; last = kept 0 })
       (replicate (3 * m) 0) (replicate (stride * b) 0) (replicate (b * n) none)
   -- it counts nothing and lists nothing
   pub counts : o .counts ≡ []

@@ -25,7 +25,7 @@ pub record Asked (h : Head) (k l n : ℕ) : Type 0 where
   pub some : 1 ≤ n
   pub block : n ≤ h .pages
   pub inside : l + n ≤ h .logical
-  pub newer : h .last < k
+  pub newer : h .last .number < k
   pub slots : (h .used + n + 1 ≤ h .slots) ⊎ (h .logical ≤ h .slots)
 
 -- an answer buffer long enough is as long as the answer: 3 words a piece of a write, 1 a copied page of a reclaim

@@ -57,7 +57,7 @@ held b c d = count (countOf c) (λ i. mapped d (startOf c + i) && eqb (at d (sta
 
 pub record AppliedOnce (w : World) : Type 0 where
   -- the last number never falls
-  pub rises : (asks : List Ask) → w .state .head .last ≤ run asks w .state .head .last
+  pub rises : (asks : List Ask) → w .state .head .last .number ≤ run asks w .state .head .last .number
   -- once a, a write or trim, has been accepted, every later write or trim b with a number not above a's is refused and does nothing
   pub refuses : (a b : Ask) (further : List Ask) → carries (a .request) ≡ true → carries (b .request) ≡ true
       → call (a .request) (w .state) .refusal ≡ 0 → numberOf (b .request) ≤ numberOf (a .request) → Nothing b (run further (step a w))
@@ -65,7 +65,7 @@ pub record AppliedOnce (w : World) : Type 0 where
   pub same : (a : Ask) (new : List ℕ) (further : List Ask) → carries (a .request) ≡ true
       → call (a .request) (w .state) .refusal ≡ 0 → call (again (a .request) new) (run further (step a w) .state) .refusal ≡ 4
   -- a 64-bit number is never above the largest: once that is the last number, every write and trim in range is refused so
-  pub largest : (a : Ask) → carries (a .request) ≡ true → numberOf (a .request) < 2 ^ 64 → w .state .head .last ≡ 2 ^ 64 - 1
+  pub largest : (a : Ask) → carries (a .request) ≡ true → numberOf (a .request) < 2 ^ 64 → w .state .head .last .number ≡ 2 ^ 64 - 1
       → given (a .request) (w .state) Refusal.Range ≡ false → usedUp (call (a .request) (w .state) .refusal) ≡ true
   -- an accepted write or trim lowers each block's valid count once for each page of its range that the block held, and raises it once for each that it
   -- holds now

@@ -58,7 +58,7 @@ module _ (s : Lent) where
   ranged-write l n = ap (λ (t : Bool). t || ltb (s .head .pages) n) (in-lines l n)
 
   -- 4
-  number-row : (k : ℕ) {x y : ℕ} → x ≡ y → judged k d x ≡ cond (leb k (s .head .last)) (number Refusal.Applied) y
+  number-row : (k : ℕ) {x y : ℕ} → x ≡ y → judged k d x ≡ cond (leb k (s .head .last .number)) (number Refusal.Applied) y
   unfolding judged applied deviceOf
   number-row k e = row Refusal.Applied refl e
 
@@ -136,7 +136,6 @@ module _ (b n l m : ℕ) (es bs ss : List ℕ) where
   kept = record { refusal = number Refusal.Shape; counts = []; after = lent (sizesOnly b n l m) es bs ss; out = [] }
 
   fresh-by : (t : Bool) → t ≡ (sizes b n l m && lengths b n m (length es) (length bs) (length ss)) → FreshAnswers b n l m es bs ss (cond t made kept)
-  unfolding sizesOnly
   fresh-by true e = record {
     refusal = rw (← e);
     refused = λ h. absurd (h refl);

@@ -47,12 +47,12 @@ step-same a w e =
 
 -- ---- the last number
 
-pub run-last : (asks : List Ask) (w : World) → w .state .head .last ≤ run asks w .state .head .last
+pub run-last : (asks : List Ask) (w : World) → w .state .head .last .number ≤ run asks w .state .head .last .number
 unfolding run step
 run-last [] w = omega arith
 run-last (a ∷ asks) w = omega (arith, call-last (a .request) (w .state), run-last asks (step a w))
 
-leaves-number : (c : Call) (d : Device) → carries c ≡ true → leaves c d .last ≡ numberOf c
+leaves-number : (c : Call) (d : Device) → carries c ≡ true → leaves c d .last .number ≡ numberOf c
 unfolding leaves written numbered withTable trimmed
 leaves-number (Call.write k l n out) d e = refl
 leaves-number (Call.trim k l n) d e = refl
@@ -60,7 +60,7 @@ leaves-number (Call.read l n out) d e = absurd (false≢true e)
 leaves-number (Call.reclaim out) d e = absurd (false≢true e)
 leaves-number Call.report d e = absurd (false≢true e)
 
-taken-newer : (c : Call) (d : Device) → carries c ≡ true → refusal c d ≡ 0 → d .last < numberOf c
+taken-newer : (c : Call) (d : Device) → carries c ≡ true → refusal c d ≡ 0 → d .last .number < numberOf c
 taken-newer (Call.write k l n out) d e t = taken (Call.write k l n out) d t .newer
 taken-newer (Call.trim k l n) d e t = taken (Call.trim k l n) d t .newer
 taken-newer (Call.read l n out) d e t = absurd (false≢true e)
@@ -69,12 +69,12 @@ taken-newer Call.report d e t = absurd (false≢true e)
 
 module _ (c : Call) (s : Lent) (n : carries c ≡ true) where
   -- an accepted one sets the last number to its own
-  pub accepted-last : call c s .refusal ≡ 0 → call c s .after .head .last ≡ numberOf c
+  pub accepted-last : call c s .refusal ≡ 0 → call c s .after .head .last .number ≡ numberOf c
   unfolding wordsOf headOf
-  accepted-last e = ap (λ (t : Lent). t .head .last) (accepted-in c s e .after) ∙ leaves-number c (deviceOf s) n
+  accepted-last e = ap (λ (t : Lent). t .head .last .number) (accepted-in c s e .after) ∙ leaves-number c (deviceOf s) n
 
   -- one whose number is not above it is not accepted, whatever the state is
-  pub used-refused : numberOf c ≤ s .head .last → call c s .refusal ≡ 0 → ⊥
+  pub used-refused : numberOf c ≤ s .head .last .number → call c s .refusal ≡ 0 → ⊥
   unfolding deviceOf
   used-refused h e = omega (arith, taken-newer c (deviceOf s) n (accepted-in c s e .plainly))
 
@@ -92,7 +92,7 @@ run-fine [] w f = f
 run-fine (a ∷ asks) w f = run-fine asks (step a w) (call-fine (a .request) (w .state) f)
 
 -- Range, and then the number
-first-used : (c : Call) (s : Lent) → carries c ≡ true → Fine s → leb (numberOf c) (s .head .last) ≡ true
+first-used : (c : Call) (s : Lent) → carries c ≡ true → Fine s → leb (numberOf c) (s .head .last .number) ≡ true
     → firstGiven (order c) (given c s) ≡ cond (given c s Refusal.Range) (number Refusal.Range) (number Refusal.Applied)
 unfolding firstGiven
 first-used (Call.write k l n out) s e f h = rw (f .0, f .1, h)
@@ -101,11 +101,11 @@ first-used (Call.read l n out) s e f h = absurd (false≢true e)
 first-used (Call.reclaim out) s e f h = absurd (false≢true e)
 first-used Call.report s e f h = absurd (false≢true e)
 
-used-refusal : (c : Call) (s : Lent) → carries c ≡ true → Fine s → numberOf c ≤ s .head .last
+used-refusal : (c : Call) (s : Lent) → carries c ≡ true → Fine s → numberOf c ≤ s .head .last .number
     → call c s .refusal ≡ cond (given c s Refusal.Range) (number Refusal.Range) (number Refusal.Applied)
-used-refusal c s e f h = answers c s .refusal ∙ first-used c s e f (le-leb (numberOf c) (s .head .last) h)
+used-refusal c s e f h = answers c s .refusal ∙ first-used c s e f (le-leb (numberOf c) (s .head .last .number) h)
 
-nothing : (b : Ask) (v : World) → carries (b .request) ≡ true → Fine (v .state) → numberOf (b .request) ≤ v .state .head .last → Nothing b v
+nothing : (b : Ask) (v : World) → carries (b .request) ≡ true → Fine (v .state) → numberOf (b .request) ≤ v .state .head .last .number → Nothing b v
 unfolding usedUp
 nothing b v e f h =
     let r = used-refusal (b .request) (v .state) e f h in
@@ -242,7 +242,7 @@ call-lowered c s n e b h =
 
 -- what repeats one of ks has a number that is not above the last
 abbrev Known : List ℕ → World → Type 0
-Known ks w = (c : Call) → repeats c ks ≡ true → (carries c ≡ true) × (numberOf c ≤ w .state .head .last)
+Known ks w = (c : Call) → repeats c ks ≡ true → (carries c ≡ true) × (numberOf c ≤ w .state .head .last .number)
 
 or-else : {C : Type 0} (a b : Bool) → (a || b) ≡ true → (a ≡ true → C) → (b ≡ true → C) → C
 or-else true b e f g = f refl
@@ -251,7 +251,7 @@ or-else false b e f g = g e
 known-more : (ks : List ℕ) (a : Ask) (w : World) → Known ks w → Known (noted a w ks) (step a w)
 unfolding noted step
 known-more ks a w f c h =
-    let later : repeats c ks ≡ true → (carries c ≡ true) × (numberOf c ≤ step a w .state .head .last) =
+    let later : repeats c ks ≡ true → (carries c ≡ true) × (numberOf c ≤ step a w .state .head .last .number) =
     λ t. (f c t .0, omega (arith, f c t .1, call-last (a .request) (w .state))) in
     let new = carries (a .request) && eqb (call (a .request) (w .state) .refusal) 0 in
     cases new

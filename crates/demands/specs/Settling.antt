@@ -17,6 +17,7 @@ use Rattle.rules.specs.Placement.{targets, puts, places, pieces}
 use Rattle.rules.specs.Reclaim.{victim, reclaimed}
 use Rattle.rules.specs.Answers.{Outcome}
 use Rattle.rules.specs.Calls.{Call, refusal, counts, leaves, lists, buffer, accepted, encoded, call}
+use Rattle.rules.specs.declared.Last.{Last}
 use Rattle.laws.specs.Placed.{puts-slots, length-placed}
 use Rattle.laws.specs.Reclaimed.{staleBlocks, few-sources, victim-chosen, reclaim-all}
 use Rattle.demands.specs.Settle.{settle, settle-done, settle-more, Settled, settle-ends, stale-blocks-lt, never-stuck}
@@ -179,7 +180,7 @@ write-taken d e k l n out g q f a r =
     record {
       range = record { some = a .some; inside = inside };
       block = omega (arith, a .block, q .pages);
-      newer = omega (arith, a .newer, q .last);
+      newer = omega (arith, a .newer, ap (λ (x : Last). x .number) (q .last));
       pages = pages;
       nodes = ⊎-elim
           (λ h. omega (arith, write-bound l n e (q .sound) pages inside))

@@ -25,7 +25,7 @@ leaves-pages (Call.read l n out) d = refl
 leaves-pages (Call.reclaim out) d = refl
 leaves-pages Call.report d = refl
 
-leaves-last : (c : Call) (d : Device) → refusal c d ≡ 0 → d .last ≤ leaves c d .last
+leaves-last : (c : Call) (d : Device) → refusal c d ≡ 0 → d .last .number ≤ leaves c d .last .number
 unfolding leaves written numbered withTable trimmed reclaimed reclaimedAt
 leaves-last (Call.write k l n out) d e = omega (arith, taken (Call.write k l n out) d e .newer)
 leaves-last (Call.trim k l n) d e = omega (arith, taken (Call.trim k l n) d e .newer)
@@ -45,10 +45,10 @@ module _ (c : Call) (s : Lent) where
       (λ e. ap (λ (t : Lent). t .head .pages) (accepted-in c s e .after) ∙ leaves-pages c (deviceOf s))
       (λ e. ap (λ (t : Lent). t .head .pages) (refused-untouched c s e .after))
 
-  pub call-last : s .head .last ≤ call c s .after .head .last
+  pub call-last : s .head .last .number ≤ call c s .after .head .last .number
   unfolding wordsOf headOf deviceOf
   call-last =
       either
       (λ e. let a = accepted-in c s e in
-      omega (arith, ap (λ (t : Lent). t .head .last) (a .after), leaves-last c (deviceOf s) (a .plainly)))
-      (λ e. omega (arith, ap (λ (t : Lent). t .head .last) (refused-untouched c s e .after)))
+      omega (arith, ap (λ (t : Lent). t .head .last .number) (a .after), leaves-last c (deviceOf s) (a .plainly)))
+      (λ e. omega (arith, ap (λ (t : Lent). t .head .last .number) (refused-untouched c s e .after)))

@@ -11,6 +11,7 @@ use Rattle.rules.specs.Lent.{Lent, lent}
 use Rattle.rules.specs.Shape.{shaped}
 use Rattle.rules.specs.Sound.{sound}
 use Rattle.rules.specs.Calls.{Call, call, sizesOnly, fresh}
+use Rattle.rules.specs.Request.{kept}
 use Rattle.rules.specs.Opened.{opened}
 use Rattle.rules.specs.declared.Refusal.{Refusal}
 use Rattle.laws.specs.Cells.{replicate-at}
@@ -70,12 +71,12 @@ refusals =
 
 -- a fresh device whose last number is the largest
 abbrev worn : Lent
-worn = lent (record { blocks = 3; pages = 1; logical = 1; slots = 1; used = 0; reserve = 2; last = 2 ^ 64 - 1 }) (small .extentWords) (small .blockWords) (small .spare)
+worn = lent (record { blocks = 3; pages = 1; logical = 1; slots = 1; used = 0; reserve = 2; last = kept (2 ^ 64 - 1) }) (small .extentWords) (small .blockWords) (small .spare)
 
 -- one extent in the only slot, over a block's edge, and a stale page
 abbrev over-the-edge : Lent
 over-the-edge =
-    lent (record { blocks = 4; pages = 2; logical = 2; slots = 1; used = 1; reserve = 3; last = 1 }) (0 ∷ 1 ∷ 2 ∷ []) (replicate (stride * 4) 1) (replicate 8 0)
+    lent (record { blocks = 4; pages = 2; logical = 2; slots = 1; used = 1; reserve = 3; last = kept 1 }) (0 ∷ 1 ∷ 2 ∷ []) (replicate (stride * 4) 1) (replicate 8 0)
 
 pub record Met : Type 0 where
   -- demand 1: each refusal is given somewhere, and a call is accepted
@@ -97,7 +98,7 @@ pub record Met : Type 0 where
   -- the double refund: the last request of P3 carries a number and is accepted; of P4's requests three repeat; a state whose last number is the largest
   pub accepted : call (Call.write 7 9 1 (replicate 48 0)) (run (take 6 p3) (started 4 16 32 16) .state) .refusal ≡ 0
   pub carried : carries (Call.write 7 9 1 (replicate 48 0)) ≡ true
-  pub largest : (shaped worn ≡ true) × (sound worn ≡ true) × (worn .head .last ≡ 2 ^ 64 - 1) × (given (Call.write 7 0 1 []) worn Refusal.Range ≡ false)
+  pub largest : (shaped worn ≡ true) × (sound worn ≡ true) × (worn .head .last .number ≡ 2 ^ 64 - 1) × (given (Call.write 7 0 1 []) worn Refusal.Range ≡ false)
   pub repeated : once [] (drop 6 p3 ++ p4) (run (take 6 p3) (started 4 16 32 16)) ≡ write 7 9 1 [] ∷ reclaim ∷ write 8 0 1 [] ∷ []
   -- T-12: something is stale in the sound state; in a damaged one 6 would apply, were it not for the 2 before it
   pub some-stale : given (Call.reclaim []) sound3 Refusal.NothingStale ≡ false

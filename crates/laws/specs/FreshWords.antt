@@ -9,6 +9,7 @@ use Rattle.rules.specs.Blocks.{stride, records}
 use Rattle.rules.specs.Lent.{lent}
 use Rattle.rules.specs.Device.{valid, extents, headOf, wordsOf}
 use Rattle.rules.specs.Calls.{freshDevice}
+use Rattle.rules.specs.Request.{kept}
 use Rattle.rules.specs.declared.Head.{Head}
 use Rattle.rules.specs.declared.Extent.{Extent}
 use Rattle.laws.specs.Sane.{Sizes}
@@ -26,7 +27,7 @@ records-zero (suc m) b v h =
 
 -- the head of a fresh device
 abbrev pub freshHead : ℕ → ℕ → ℕ → ℕ → Head
-freshHead b n l m = record { blocks = b; pages = n; logical = l; slots = m; used = 0; reserve = b - 1; last = 0 }
+freshHead b n l m = record { blocks = b; pages = n; logical = l; slots = m; used = 0; reserve = b - 1; last = kept 0 }
 
 module _ (b n l m : ℕ) (z : Sizes b n l m) where
   none-in : extents (freshDevice b n l m) ≡ []
@@ -42,7 +43,7 @@ module _ (b n l m : ℕ) (z : Sizes b n l m) where
     slots = m;
     used = ap length none-in i;
     reserve = b - 1;
-    last = 0;
+    last = kept 0;
   }
 
   blocks-are : records (freshDevice b n l m .fills) 0 (valid (freshDevice b n l m)) ≡ replicate (stride * b) 0

@@ -75,27 +75,27 @@ unfolding tooMany
 fits-in e h = le-ltb (e .slots) (length (extents e)) h
 
 -- 4
-pub judged-none : (k : ℕ) (d : Device) (later : ℕ) → judged k d later ≡ 0 → (d .last < k) × (later ≡ 0)
+pub judged-none : (k : ℕ) (d : Device) (later : ℕ) → judged k d later ≡ 0 → (d .last .number < k) × (later ≡ 0)
 unfolding judged applied
-judged-none k d later e = let a = refuse-none (leb k (d .last)) Refusal.Applied later e in (leb-false k (d .last) (a .0), a .1)
+judged-none k d later e = let a = refuse-none (leb k (d .last .number)) Refusal.Applied later e in (leb-false k (d .last .number) (a .0), a .1)
 
-pub judged-pass : (k : ℕ) (d : Device) (later : ℕ) → d .last < k → later ≡ 0 → judged k d later ≡ 0
+pub judged-pass : (k : ℕ) (d : Device) (later : ℕ) → d .last .number < k → later ≡ 0 → judged k d later ≡ 0
 unfolding judged applied
-judged-pass k d later h z = refuse-pass (leb k (d .last)) Refusal.Applied later (lt-leb k (d .last) h) z
+judged-pass k d later h z = refuse-pass (leb k (d .last .number)) Refusal.Applied later (lt-leb k (d .last .number) h) z
 
 -- ---- what it says that a call is accepted
 
 pub record WriteTaken (k l n : ℕ) (out : List ℕ) (d : Device) : Type 0 where
   pub range : InRange l n d
   pub block : n ≤ d .pages
-  pub newer : d .last < k
+  pub newer : d .last .number < k
   pub pages : n ≤ free d
   pub nodes : length (extents (puts l n d)) ≤ puts l n d .slots
   pub room : 3 * length (pieces l n d) ≤ length out
 
 pub record TrimTaken (k l n : ℕ) (d : Device) : Type 0 where
   pub range : InRange l n d
-  pub newer : d .last < k
+  pub newer : d .last .number < k
   pub nodes : length (extents (trimmed k l n d)) ≤ trimmed k l n d .slots
 
 pub record ReadTaken (l n : ℕ) (out : List ℕ) (d : Device) : Type 0 where

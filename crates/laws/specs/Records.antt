@@ -1,11 +1,51 @@
--- The words of the blocks: the records of fills and valid counts, read word by word; and words that are such records.
+-- The words of the blocks: a record put in the place of another; the records of fills and valid counts, read word by word; and words that are
+-- such records.
 use Prim.Native.Nat.{ℕ, zero, suc, _+_, _*_, _<_}
 use mathlib.Core.Path.{_≡_, refl, ap, _∙_}
 use mathlib.Core.List.{List, [], _∷_}
 use native.Mathlib.Omega.{arith}
-use lib.ListN.{length, getD}
+use lib.ListN.{length, getD, set, length-set}
+use lib.Seq.{getD-set-same, getD-set-other, set-getD}
 use Rattle.rules.specs.Counting.{tabulate}
-use Rattle.rules.specs.Blocks.{stride, fillWord, validWord, records}
+use Rattle.rules.specs.Blocks.{stride, fillWord, validWord, HasBlock, blockAt, putBlock, records}
+use Rattle.rules.specs.declared.BlockRecord.{BlockRecord}
+
+-- ---- one record put
+
+pub block-path : (x y : BlockRecord) → x .fill ≡ y .fill → x .valid ≡ y .valid → x ≡ y
+block-path x y f v = λ i. record { fill = f i; valid = v i }
+
+module _ (ws : List ℕ) (b : ℕ) (r : BlockRecord) where
+  abbrev once : List ℕ
+  once = set ws (stride * b) (r .fill)
+
+  pub put-block-length : length (putBlock ws b r) ≡ length ws
+  unfolding putBlock
+  put-block-length = length-set once (stride * b + 1) (r .valid) ∙ length-set ws (stride * b) (r .fill)
+
+  -- it is the record there
+  pub put-block-here : HasBlock ws b → blockAt (putBlock ws b r) b ≡ r
+  unfolding putBlock
+  put-block-here h =
+      block-path (blockAt (putBlock ws b r) b) r
+      (getD-set-other once (stride * b + 1) (stride * b) (r .valid) 0 (omega arith) ∙ getD-set-same ws (stride * b) (r .fill) 0 (omega arith))
+      (getD-set-same once (stride * b + 1) (r .valid) 0 (omega (arith, length-set ws (stride * b) (r .fill))))
+
+  -- the other records stay
+  pub put-block-else : (c : ℕ) → (c ≡ b → ⊥) → blockAt (putBlock ws b r) c ≡ blockAt ws c
+  unfolding putBlock
+  put-block-else c e =
+      block-path (blockAt (putBlock ws b r) c) (blockAt ws c)
+      (getD-set-other once (stride * b + 1) (stride * c) (r .valid) 0 (omega arith) ∙ getD-set-other ws (stride * b) (stride * c) (r .fill) 0 (omega arith))
+      (getD-set-other once (stride * b + 1) (stride * c + 1) (r .valid) 0 (omega arith) ∙ getD-set-other ws (stride * b) (stride * c + 1) (r .fill) 0 (omega arith))
+
+-- the record that is there already
+pub put-block-same : (ws : List ℕ) (b : ℕ) → putBlock ws b (blockAt ws b) ≡ ws
+unfolding putBlock
+put-block-same ws b =
+    ap (λ (xs : List ℕ). set xs (stride * b + 1) (validWord ws b)) (set-getD ws (stride * b) 0) ∙ set-getD ws (stride * b + 1) 0
+
+-- ---- all of them
 
 pub records-length : (fs : List ℕ) (b : ℕ) (v : ℕ → ℕ) → length (records fs b v) ≡ stride * length fs
 unfolding records

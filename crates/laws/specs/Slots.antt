@@ -1,11 +1,12 @@
--- Extents as words, three a slot: slots read from words, and words laid out from extents.
+-- Extents as words, three a slot: slots read from words, one put in the place of another, and words laid out from extents.
 use Prim.Native.Nat.{ℕ, zero, suc, _+_, _-_, _*_, _≤_, _<_}
 use mathlib.Core.Path.{_≡_, refl, ap, ap₂, _∙_}
 use mathlib.Core.List.{List, [], _∷_, _++_}
 use native.Mathlib.Omega.{arith}
 use native.Mathlib.Nat.{not-suc-le-zero, le-of-suc-le-suc}
-use lib.ListN.{length, getD, take, drop}
-use Rattle.rules.specs.Extents.{slot, slotsFrom, flat}
+use lib.ListN.{length, getD, set, take, drop, length-set}
+use lib.Seq.{sets, getD-set-same, getD-set-other}
+use Rattle.rules.specs.Extents.{slot, putSlot, slotsFrom, flat}
 use Rattle.rules.specs.declared.Extent.{Extent}
 use Rattle.laws.specs.Unique.{extent-path}
 
@@ -52,6 +53,49 @@ unfolding slotsFrom
 slots-behind a b c ws i j zero e = refl
 slots-behind a b c ws i j (suc u) e =
     ap₂ (λ (x : Extent) (xs : List Extent). x ∷ xs) (slot-behind a b c ws i j e) (slots-behind a b c ws (i + 1) (j + 1) u (omega arith))
+
+-- ---- one slot put
+
+module _ (ws : List ℕ) (i : ℕ) (e : Extent) where
+  abbrev once : List ℕ
+  once = set ws (3 * i) (e .logical)
+
+  abbrev twice : List ℕ
+  twice = set once (3 * i + 1) (e .physical)
+
+  twice-length : length twice ≡ length ws
+  twice-length = length-set once (3 * i + 1) (e .physical) ∙ length-set ws (3 * i) (e .logical)
+
+  pub put-slot-length : length (putSlot ws i e) ≡ length ws
+  unfolding putSlot
+  put-slot-length = length-set twice (3 * i + 2) (e .count) ∙ twice-length
+
+  -- it is the extent there
+  pub put-slot-here : 3 * i + 2 < length ws → slot (putSlot ws i e) i ≡ e
+  unfolding putSlot
+  put-slot-here h =
+      extent-path (slot (putSlot ws i e) i) e
+      (getD-set-other twice (3 * i + 2) (3 * i) (e .count) 0 (omega arith) ∙ getD-set-other once (3 * i + 1) (3 * i) (e .physical) 0 (omega arith)
+      ∙ getD-set-same ws (3 * i) (e .logical) 0 (omega arith))
+      (getD-set-other twice (3 * i + 2) (3 * i + 1) (e .count) 0 (omega arith)
+      ∙ getD-set-same once (3 * i + 1) (e .physical) 0 (omega (arith, length-set ws (3 * i) (e .logical))))
+      (getD-set-same twice (3 * i + 2) (e .count) 0 (omega (arith, twice-length)))
+
+  -- the other words stay
+  pub put-slot-else : (k : ℕ) → (3 * i ≤ k → k < 3 * i + 3 → ⊥) → getD (putSlot ws i e) k 0 ≡ getD ws k 0
+  unfolding putSlot
+  put-slot-else k h =
+      getD-set-other twice (3 * i + 2) k (e .count) 0 (λ g. h (omega arith) (omega arith))
+      ∙ getD-set-other once (3 * i + 1) k (e .physical) 0 (λ g. h (omega arith) (omega arith))
+      ∙ getD-set-other ws (3 * i) k (e .logical) 0 (λ g. h (omega arith) (omega arith))
+
+  -- three words stored from there on
+  pub put-slot-sets : putSlot ws i e ≡ sets ws (3 * i) (flat (e ∷ []))
+  unfolding putSlot flat
+  put-slot-sets =
+      let a : 3 * i + 1 ≡ suc (3 * i) = omega arith in
+      let b : 3 * i + 2 ≡ suc (suc (3 * i)) = omega arith in
+      ap₂ (λ (x y : ℕ). set (set once x (e .physical)) y (e .count)) a b
 
 -- ---- words laid out from extents
 

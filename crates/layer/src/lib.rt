@@ -23,15 +23,7 @@ pub fn fresh(
 ) -> Done
     ensures { λ r. ⌜ outcome (done r) (now (ext .exit)) (now (blk .exit)) (now (spare .exit)) [] ≡ fresh blocks pages logical slots (now (ext .entry)) (now (blk .entry)) (now (spare .entry)) ⌝ }
 {
-    let given = Head {
-        blocks: blocks,
-        pages: pages,
-        logical: logical,
-        slots: slots,
-        used: 0,
-        reserve: 0,
-        last: 0,
-    };
+    let given = rules::sizes_only(blocks, pages, logical, slots);
     if !state::shape_ok(given, ext.len(), blk.len(), spare.len()) {
         return Done::Refused(Refusal::Shape, given);
     }
@@ -95,7 +87,7 @@ pub fn trim(
     let used = accepted::cut_range(h, ext, blk, spare, sides, l, n);
     let mut g = h;
     g.used = used;
-    g.last = number;
+    g.last = rules::kept(number);
     Done::Accepted(g)
 }
 
@@ -120,7 +112,7 @@ pub fn write(
     if let Verdict::Refused(r) = w {
         return Listed::Refused(r, h);
     }
-    writing::place_pages(h, ext, blk, spare, m, number, l, n, out)
+    accepted::place_pages(h, ext, blk, spare, m, number, l, n, out)
 }
 
 pub fn reclaim(
@@ -137,9 +129,9 @@ pub fn reclaim(
         return Listed::Refused(r, h);
     }
     let victim = choosing::victim_of(blk, h.blocks);
-    let w = reclaimable::reclaim_verdict(h, ext, blk, spare, victim, out.len());
+    let w = verdicts::reclaim_verdict(h, ext, blk, spare, victim, out.len());
     if let Verdict::Refused(r) = w {
         return Listed::Refused(r, h);
     }
-    emptying::empty_victim(h, ext, blk, spare, victim, out)
+    accepted::empty_victim(h, ext, blk, spare, victim, out)
 }

@@ -11,7 +11,7 @@ use lib.Dec.{ltb}
 use lib.ListN.{length, getD, take, drop, set, length-set, length-append, length-drop}
 use lib.Seq.{take-set-le, drop-set-lt, drop-set-add, drop-cons, getD-set-same, getD-set-other, set-getD, set-out, set-append-left, take-set-lt, length-take-le}
 use Rattle.rules.specs.Counting.{one}
-use Rattle.rules.specs.Extents.{none, extent, end, slot, slotsFrom}
+use Rattle.rules.specs.Extents.{none, extent, end, slot, putSlot, slotsFrom}
 use Rattle.rules.specs.declared.Extent.{Extent}
 use Rattle.laws.specs.Rows.{Rows}
 use Rattle.laws.specs.Sums.{one-le}
@@ -20,7 +20,7 @@ use Rattle.laws.specs.Cut.{below, from, cut, below-none, below-part, below-all,
 use Rattle.laws.specs.Slots.{slots-at, slots-length}
 use Rattle.laws.specs.Counts.{startsBefore, endsAfter, tally, tally-le, starts-none, ends-all}
 use Rattle.map.specs.Sound.{Sound}
-use Rattle.map.specs.Padded.{padded, Holds, became-length, became-slots, became-holds}
+use Rattle.map.specs.Padded.{padded, Holds, became-length, became-slots, became-holds, holds-put}
 
 -- an extent's part below l
 abbrev pub upTo : ℕ → Extent → Extent
@@ -203,13 +203,13 @@ module _ (ws : List ℕ) (u : ℕ) where
         ∙ ap (set (slotsFrom ws 0 u) (a - 1)) (extent-path (getD (slotsFrom ws 0 u) (a - 1) blank) (upTo l (getD (slotsFrom ws 0 u) (a - 1) blank)) refl refl (rw x (omega arith)))))
 
     pub right-set : (l a : ℕ) (ws′ : List ℕ) → 1 ≤ a → a ≤ u → slot ws (a - 1) .logical ≤ l → l < end (slot ws (a - 1))
-        → ws′ ≡ padded (length ws) (set (slotsFrom ws 0 u) (a - 1) (extent (slot ws (a - 1) .logical) (slot ws (a - 1) .physical) (l - slot ws (a - 1) .logical)))
+        → ws′ ≡ putSlot ws (a - 1) (extent (slot ws (a - 1) .logical) (slot ws (a - 1) .physical) (l - slot ws (a - 1) .logical))
         → ws′ ≡ padded (length ws) (clipRight l a (slotsFrom ws 0 u))
     unfolding clipRight
     right-set l a ws′ s t b d g =
         let e : a ≡ suc (a - 1) = omega arith in
         let x = at-slot (a - 1) (omega arith) in
-        rw e (g ∙ ap (λ (y : Extent). padded (length ws) (set (slotsFrom ws 0 u) (a - 1) y))
+        rw e (g ∙ holds-put ws u (a - 1) _ h (omega arith) ∙ ap (λ (y : Extent). padded (length ws) (set (slotsFrom ws 0 u) (a - 1) y))
         (extent-path _ (upTo l (slot ws (a - 1))) refl refl (omega arith) ∙ ap (upTo l) (sym x)))
 
     pub left-none : (e z : ℕ) → u ≤ z → ws ≡ padded (length ws) (clipLeft e z (slotsFrom ws 0 u))
@@ -224,11 +224,11 @@ module _ (ws : List ℕ) (u : ℕ) where
         ∙ ap (set (slotsFrom ws 0 u) z) (x ∙ extent-path (slot ws z) (onFrom e (slot ws z)) (omega arith) (omega arith) (omega arith) ∙ ap (onFrom e) (sym x)))
 
     pub left-set : (e z : ℕ) (ws′ : List ℕ) → z < u → slot ws z .logical < e
-        → ws′ ≡ padded (length ws) (set (slotsFrom ws 0 u) z (extent e (slot ws z .physical + (e - slot ws z .logical)) (slot ws z .count - (e - slot ws z .logical))))
+        → ws′ ≡ putSlot ws z (extent e (slot ws z .physical + (e - slot ws z .logical)) (slot ws z .count - (e - slot ws z .logical)))
         → ws′ ≡ padded (length ws) (clipLeft e z (slotsFrom ws 0 u))
     unfolding clipLeft
     left-set e z ws′ s b g =
-        g ∙ ap (λ (y : Extent). padded (length ws) (set (slotsFrom ws 0 u) z y))
+        g ∙ holds-put ws u z _ h s ∙ ap (λ (y : Extent). padded (length ws) (set (slotsFrom ws 0 u) z y))
         (extent-path _ (onFrom e (slot ws z)) (omega arith) (omega arith) (omega arith) ∙ ap (onFrom e) (sym (at-slot z s)))
 
     -- the right part put in behind slot i
@@ -250,17 +250,18 @@ module _ (ws : List ℕ) (u : ℕ) where
       one-more : length both ≡ u + 1
       one-more = omega (arith, length-append (take (i + 1) es) (right ∷ drop (i + 1) es), length-take-le (i + 1) es (omega (arith, size)), length-drop (i + 1) es, size)
 
-      pub split-holds : Holds mid (u + 1)
+      split-holds : Holds mid (u + 1)
       split-holds = became-holds (length ws) both mid (u + 1) g one-more (omega arith)
 
       -- and slot i clipped
-      pub split-set : (ws′ : List ℕ) → ws′ ≡ padded (length mid) (set (slotsFrom mid 0 (u + 1)) i (extent (slot ws i .logical) (slot ws i .physical) (l - slot ws i .logical)))
+      pub split-set : (ws′ : List ℕ) → ws′ ≡ putSlot mid i (extent (slot ws i .logical) (slot ws i .physical) (l - slot ws i .logical))
           → ws′ ≡ padded (length ws) (splitAt l e i es)
       unfolding splitAt
       split-set ws′ q =
           let x = at-slot i t in
           let left = extent (slot ws i .logical) (slot ws i .physical) (l - slot ws i .logical) in
-          q ∙ ap₂ (λ (j : ℕ) (xs : List Extent). padded j (set xs i left)) (became-length (length ws) both mid (u + 1) g one-more (omega arith)) (became-slots (length ws) both mid (u + 1) g one-more (omega arith))
+          q ∙ holds-put mid (u + 1) i left split-holds (omega arith)
+          ∙ ap₂ (λ (j : ℕ) (xs : List Extent). padded j (set xs i left)) (became-length (length ws) both mid (u + 1) g one-more (omega arith)) (became-slots (length ws) both mid (u + 1) g one-more (omega arith))
           ∙ ap (padded (length ws)) (set-append-left (take (i + 1) es) (right ∷ drop (i + 1) es) i left (omega (arith, length-take-le (i + 1) es (omega (arith, size))))
           ∙ ap₂ (λ (y : Extent) (v : Extent). set (take (i + 1) es) i y ++ v ∷ drop (i + 1) es)
           (extent-path left (upTo l (slot ws i)) refl refl (omega arith) ∙ ap (upTo l) (sym x))

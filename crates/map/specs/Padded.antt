@@ -6,9 +6,10 @@ use native.Mathlib.Omega.{arith}
 use borrow.Rule.Slice.PartMut.{midOf, putMid}
 use lib.ListN.{length, getD, take, drop, set, replicate, length-append, length-drop, length-replicate, length-set, getD-replicate, take-append-drop, replicate-append-replicate}
 use lib.Seq.{sets, ext-getD, getD-drop, take-at, drop-at, drop-drop, take-append-add, drop-append-add, length-take-le}
-use Rattle.rules.specs.Extents.{extent, slotsFrom, flat}
+use Rattle.rules.specs.Extents.{extent, putSlot, slotsFrom, flat}
+use Rattle.rules.specs.Device.{Device, extents, wordsOf}
 use Rattle.rules.specs.declared.Extent.{Extent}
-use Rattle.laws.specs.Slots.{flat-length, flat-append, flat-take, flat-drop, slots-flat, flat-slots, slots-length}
+use Rattle.laws.specs.Slots.{flat-length, flat-append, flat-take, flat-drop, slots-flat, flat-slots, slots-length, put-slot-sets}
 
 -- m words
 unfoldable pub padded : ℕ → List Extent → List ℕ
@@ -21,6 +22,13 @@ padded-length m es h = simp (length-append, flat-length, length-replicate) (omeg
 pub padded-slots : (m : ℕ) (es : List Extent) → slotsFrom (padded m es) 0 (length es) ≡ es
 unfolding padded
 padded-slots m es = slots-flat es (replicate (m - 3 * length es) 0)
+
+-- extents padded to the slots of a device are its words
+pub padded-words : (d : Device) → padded (3 * d .slots) (extents d) ≡ wordsOf d .extentWords
+unfolding padded wordsOf
+padded-words d =
+    let e : 3 * d .slots - 3 * length (extents d) ≡ 3 * (d .slots - length (extents d)) = omega arith in
+    ap (λ (k : ℕ). flat (extents d) ++ replicate k 0) e
 
 -- ---- words that hold the extents of their first u slots and nothing else
 
@@ -59,25 +67,22 @@ pub record Becomes (m : ℕ) (es : List Extent) (ws : List ℕ) (r : ℕ) : Type
 
 -- ---- one slot stored
 
-flat-set : (es : List Extent) (i k l p c : ℕ) (z : List ℕ) → i < length es → k ≡ 3 * i → sets (flat es ++ z) k (l ∷ p ∷ c ∷ []) ≡ flat (set es i (extent l p c)) ++ z
+flat-set : (es : List Extent) (i k : ℕ) (e : Extent) (z : List ℕ) → i < length es → k ≡ 3 * i → sets (flat es ++ z) k (flat (e ∷ [])) ≡ flat (set es i e) ++ z
 unfolding flat
-flat-set [] i k l p c z h e = absurd (omega arith)
-flat-set (x ∷ xs) zero k l p c z h e = let at : k ≡ 0 = omega arith in rw at
-flat-set (x ∷ xs) (suc i) k l p c z h e =
+flat-set [] i k e z h g = absurd (omega arith)
+flat-set (x ∷ xs) zero k e z h g = let at : k ≡ 0 = omega arith in rw at
+flat-set (x ∷ xs) (suc i) k e z h g =
     let at : k ≡ suc (suc (suc (k - 3))) = omega arith in
-    rw at (ap (λ (r : List ℕ). x .logical ∷ x .physical ∷ x .count ∷ r) (flat-set xs i (k - 3) l p c z (omega arith) (omega arith)))
+    rw at (ap (λ (r : List ℕ). x .logical ∷ x .physical ∷ x .count ∷ r) (flat-set xs i (k - 3) e z (omega arith) (omega arith)))
 
--- as the code stores it
-pub holds-set : (ws : List ℕ) (u i l p c : ℕ) → Holds ws u → i < u
-    → set (set (set ws (3 * i) l) (3 * i + 1) p) (3 * i + 2) c ≡ padded (length ws) (set (slotsFrom ws 0 u) i (extent l p c))
-unfolding padded
-holds-set ws u i l p c h s =
+pub holds-put : (ws : List ℕ) (u i : ℕ) (e : Extent) → Holds ws u → i < u → putSlot ws i e ≡ padded (length ws) (set (slotsFrom ws 0 u) i e)
+unfolding padded flat
+holds-put ws u i e h s =
     let es = slotsFrom ws 0 u in
     let z : List ℕ = replicate (length ws - 3 * length es) 0 in
-    let a : 3 * i + 1 ≡ suc (3 * i) = omega arith in
-    let b : 3 * i + 2 ≡ suc (suc (3 * i)) = omega arith in
-    rw (a, b) (ap (λ (w : List ℕ). sets w (3 * i) (l ∷ p ∷ c ∷ [])) (h .is) ∙ flat-set es i (3 * i) l p c z (omega (arith, slots-length ws 0 u)) refl
-    ∙ ap (λ (n : ℕ). flat (set es i (extent l p c)) ++ replicate (length ws - 3 * n) 0) (sym (length-set es i (extent l p c))))
+    put-slot-sets ws i e
+    ∙ ap (λ (w : List ℕ). sets w (3 * i) (flat (e ∷ []))) (h .is) ∙ flat-set es i (3 * i) e z (omega (arith, slots-length ws 0 u)) refl
+    ∙ ap (λ (n : ℕ). flat (set es i e) ++ replicate (length ws - 3 * n) 0) (sym (length-set es i e))
 
 -- ---- slots moved
 

@@ -99,17 +99,6 @@ pub fn joins_left(ext: &[u32], before: usize, pages: u32, l: u32, p: u32) -> boo
     q / pages == p / pages
 }
 
-// Slot i becomes (l, p, c).
-pub fn put(ext: &mut [u32], used: usize, i: usize, l: u32, p: u32, c: u32)
-    requires { ⌜ Holds (now ext) used × (i < used) ⌝ }
-    ensures { λ _. ⌜ now (ext .exit) ≡ padded (length (now (ext .entry))) (set (slotsFrom (now (ext .entry)) 0 used) i (extent l p c)) ⌝ }
-{
-    let at = 3 * i;
-    ext[at] = l;
-    ext[at + 1] = p;
-    ext[at + 2] = c;
-}
-
 // (l, p, c) comes in at slot i, and the slots from there on move up.
 pub fn insert(ext: &mut [u32], used: usize, i: usize, l: u32, p: u32, c: u32)
     requires { ⌜ Holds (now ext) used × (i ≤ used) × (3 * used + 3 ≤ length (now ext)) ⌝ }

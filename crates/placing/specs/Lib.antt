@@ -1,2 +1,5 @@
+pub mod Bare
+pub mod Blocks
+pub mod Rest
 pub mod Place
 pub mod Way

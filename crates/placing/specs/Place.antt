@@ -8,17 +8,18 @@ use lib.ListN.{length, getD, set, take, drop}
 use lib.Seq.{sets, sets-eq, drop-drop}
 use borrow.Rule.Slice.PartMut.{midOf, putMid, mid-len}
 use Rattle.rules.specs.Counting.{count, tabulate}
-use Rattle.rules.specs.Extents.{none, extent, flat}
-use Rattle.rules.specs.Blocks.{stride, fillWord, validWord}
+use Rattle.rules.specs.Extents.{none, extent, putSlot, flat}
+use Rattle.rules.specs.Blocks.{stride, fillWord, validWord, HasBlock}
 use Rattle.rules.specs.Device.{Device, blocks, free}
 use Rattle.rules.specs.Placement.{targets, puts, pieces}
 use Rattle.rules.specs.Calls.{over}
 use Rattle.rules.specs.declared.Extent.{Extent}
 use Rattle.laws.specs.Cells.{length-tabulate}
+use Rattle.laws.specs.Slots.{put-slot-sets}
 use Rattle.laws.specs.Spread.{listed, listed-none, listed-some}
 use Rattle.laws.specs.Alike.{Alike, alike-targets, alike-puts, alike-pieces}
-use Rattle.targets.specs.Bare.{fillsOf, bare}
-use Rattle.targets.specs.Blocks.{raised, raised-none}
+use Rattle.placing.specs.Bare.{fillsOf, bare}
+use Rattle.placing.specs.Blocks.{raised, raised-none}
 
 -- ---- one block
 
@@ -28,7 +29,7 @@ pieceIn blk b n l m = extent l (b * n + fillWord blk b) m
 
 -- the words have room for m pages of block b and for piece k
 pub record Fits (blk spare out : List ℕ) (b n l m k : ℕ) : Type 0 where
-  pub inside : stride * b + 1 < length blk
+  pub inside : HasBlock blk b
   pub small : b * n + n ≤ 262144
   pub whole : b * n + n ≤ length spare
   pub below : 0 < m → fillWord blk b + m ≤ n
@@ -43,13 +44,6 @@ pub record PlacedIn (blk spare out blk′ spare′ out′ : List ℕ) (b n l m k
   pub records : blk′ ≡ raised m b blk
   pub labels : spare′ ≡ sets spare (b * n + fillWord blk b) (tabulate m (λ i. l + i))
   pub pieces : out′ ≡ sets out (3 * k) (flat (listed (pieceIn blk b n l m) []))
-
--- the three words of a piece, in the code's own terms
-pub three-words : (out : List ℕ) (at l p c : ℕ) → set (set (set out at l) (at + 1) p) (at + 2) c ≡ sets out at (l ∷ p ∷ c ∷ [])
-three-words out at l p c =
-    let e : at + 1 ≡ suc at = omega arith in
-    let f : at + 2 ≡ suc (suc at) = omega arith in
-    ap₂ (λ (x y : ℕ). set (set (set out at l) x p) y c) e f
 
 -- a part comes back with as many words as were lent
 pub put-part : (a e : ℕ) (xs ys : List ℕ) → a ≤ e → e ≤ length xs → length ys ≡ e - a → putMid a (e - a) xs ys ≡ sets xs a ys
@@ -72,7 +66,7 @@ placed-none blk spare out b n l m k e =
 
 pub placed-some : (blk spare out blk′ ys out′ : List ℕ) (b n l m k f : ℕ) → f ≡ fillWord blk b → 0 < m → b * n + f + m ≤ length spare
     → ys ≡ tabulate (length (midOf (b * n + f) (b * n + f + m - (b * n + f)) spare)) (λ i. l + i)
-    → blk′ ≡ raised m b blk → out′ ≡ sets out (3 * k) (l ∷ (b * n + f) ∷ m ∷ [])
+    → blk′ ≡ raised m b blk → out′ ≡ putSlot out k (extent l (b * n + f) m)
     → PlacedIn blk spare out blk′ (putMid (b * n + f) (b * n + f + m - (b * n + f)) spare ys) out′ b n l m k (k + 1)
 unfolding flat
 placed-some blk spare out blk′ ys out′ b n l m k f e s h labels records pieces =
@@ -86,7 +80,7 @@ placed-some blk spare out blk′ ys out′ b n l m k f e s h labels records piec
       many = omega (arith, ap length one-listed);
       records = records;
       labels = put-part p (p + m) spare ys (omega arith) h size ∙ ap₂ (λ (y : ℕ) (vs : List ℕ). sets spare (b * n + y) vs) e all;
-      pieces = pieces ∙ ap (λ (y : ℕ). sets out (3 * k) (l ∷ (b * n + y) ∷ m ∷ [])) e ∙ sym (ap (λ (es : List Extent). sets out (3 * k) (flat es)) one-listed);
+      pieces = pieces ∙ put-slot-sets out k (extent l (b * n + f) m) ∙ ap (λ (y : ℕ). sets out (3 * k) (flat (extent l (b * n + y) m ∷ []))) e ∙ sym (ap (λ (es : List Extent). sets out (3 * k) (flat es)) one-listed);
     }
 
 -- ---- what it comes to

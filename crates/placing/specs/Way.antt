@@ -11,7 +11,7 @@ use lib.ListN.{length, getD, drop}
 use lib.Seq.{sets, sets-eq, length-sets}
 use Rattle.rules.specs.Counting.{count, tabulate}
 use Rattle.rules.specs.Extents.{none, flat}
-use Rattle.rules.specs.Blocks.{stride, fillWord, validWord}
+use Rattle.rules.specs.Blocks.{stride, fillWord, validWord, HasBlock}
 use Rattle.rules.specs.Device.{blocks}
 use Rattle.rules.specs.Placement.{targets, puts, pieces}
 use Rattle.rules.specs.Calls.{over}
@@ -19,9 +19,9 @@ use Rattle.rules.specs.declared.Extent.{Extent}
 use Rattle.laws.specs.Slots.{flat-length}
 use Rattle.laws.specs.Cells.{block-le, length-tabulate, getD-tabulate}
 use Rattle.laws.specs.Spread.{listed, spread, filled, labelled, listed-none, listed-some, taken-le, taken-room, spread-pieces, puts-filled, puts-labelled, puts-rise}
-use Rattle.targets.specs.Bare.{fillsOf, bare}
-use Rattle.targets.specs.Blocks.{raised, raises, raised-length, raised-rise, raised-after, raises-fills, raises-rise}
-use Rattle.targets.specs.Rest.{rest, takes, page-small, fills-all, rest-start, rest-next, rest-end}
+use Rattle.placing.specs.Bare.{fillsOf, bare}
+use Rattle.placing.specs.Blocks.{raised, raises, raised-length, raised-rise, raised-after, raises-fills, raises-rise}
+use Rattle.placing.specs.Rest.{rest, takes, page-small, fills-all, rest-start, rest-next, rest-end}
 use Rattle.placing.specs.Place.{pieceIn, Fits, PlacedIn, Ready, Placed}
 
 -- ---- a piece in front of others
@@ -99,7 +99,7 @@ module _ (n reserve blocks l want : ℕ) (blk₀ spare₀ out₀ : List ℕ) whe
         counting = omega (arith, ap length same);
       }
 
-rest-step : (n reserve blocks : ℕ) (blk : List ℕ) (b l want m : ℕ) → b < blocks → stride * b + 1 < length blk → m ≡ takes n reserve blocks blk b want
+rest-step : (n reserve blocks : ℕ) (blk : List ℕ) (b l want m : ℕ) → b < blocks → HasBlock blk b → m ≡ takes n reserve blocks blk b want
     → rest n reserve blocks blk b l want ≡ listed (pieceIn blk b n l m) (rest n reserve blocks (raised m b blk) (b + 1) (l + m) (want - m))
 unfolding rest
 rest-step n reserve blocks blk b l want m h s t =
@@ -184,7 +184,7 @@ module _ (blocks n reserve l want : ℕ) (blk spare out : List ℕ) (q : Ready b
 module _ (n reserve blocks l want : ℕ) (blk₀ spare₀ out₀ : List ℕ) (q : Ready blocks n reserve l want blk₀ spare₀ out₀)
     (blk spare out : List ℕ) (b done k : ℕ) (p : Placing n reserve blocks l want blk₀ spare₀ out₀ blk spare out b done k) where
   module _ (m : ℕ) (h : b < blocks) (t : m ≡ takes n reserve blocks blk b (want - done)) where
-    step-inside : stride * b + 1 < length blk
+    step-inside : HasBlock blk b
     step-inside = omega (arith, q .blk-size, p .blk-size)
 
     step-le : done + m ≤ want

@@ -1,35 +1,77 @@
-// Where a write's pages go: the blocks in turn, each with what it has room for, the reserve never. The order of the blocks is known here,
-// in `targets` and in specs/Placement.antt of `rules`, and nowhere else in the code.
+// Where a write's pages go: the blocks in turn, each with what it has room for, the reserve never. The order of the blocks is known here and
+// in specs/Placement.antt of `rules`, and nowhere else in the code.
+use rules::Extent;
 ghost use mathlib.Core.Path.{_≡_};
-ghost use Prim.Native.Nat.{_+_, _*_, _<_, _≤_, _^_};
-ghost use mathlib.Core.List.{[], _∷_};
+ghost use Prim.Native.Nat.{ℕ, _+_, _*_, _<_, _≤_, _^_};
 ghost use lib.ListN.{length};
-ghost use lib.Seq.{sets};
-ghost use Rattle.rules.specs.Blocks.{stride, fillWord, validWord};
-ghost use Rattle.targets.specs.Bare.{bare};
-ghost use Rattle.targets.specs.Blocks.{raised};
+ghost use Rattle.rules.specs.Blocks.{stride, fillWord, validWord, HasBlock};
+ghost use Rattle.laws.specs.Spread.{taken, spread, firstPage};
+ghost use Rattle.placing.specs.Bare.{bare, fillsOf};
+ghost use Rattle.placing.specs.Blocks.{raised};
 ghost use Rattle.placing.specs.Place.{Fits, PlacedIn, Ready, Placed};
+
+// What block b takes of `want` pages.
+fn room_in(blk: &[u32], b: usize, n: u32, reserve: u32, want: u32) -> u32
+    requires { ⌜ HasBlock (now blk) b ⌝ }
+    ensures { λ r. ⌜ r ≡ taken n reserve b (fillWord (now (blk .entry)) b) want ⌝ }
+{
+    if b == reserve as usize {
+        return 0;
+    }
+    let fill = words::fill_of(blk, b);
+    if n <= fill {
+        return 0;
+    }
+    if n - fill < want {
+        return n - fill;
+    }
+    want
+}
+
+// How many pieces `want` pages make.
+pub fn pieces_of(blk: &[u32], blocks: u32, n: u32, reserve: u32, want: u32) -> u32
+    requires { ⌜ stride * blocks ≤ length (now blk) ⌝ }
+    ensures { λ r. ⌜ ((l : ℕ) → r ≡ length (spread n reserve (fillsOf blocks (now (blk .entry))) 0 l want)) ⌝ }
+{
+    let mut count: u32 = 0;
+    let mut left = want;
+    let mut b: usize = 0;
+    while b < blocks as usize {
+        let m = room_in(blk, b, n, reserve, left);
+        if 0 < m {
+            count += 1;
+        }
+        left -= m;
+        b += 1;
+    }
+    count
+}
+
+// The page of the first piece, or 0 where no page is free.
+pub fn first_page(blk: &[u32], blocks: u32, n: u32, reserve: u32) -> u32
+    requires { ⌜ (stride * blocks ≤ length (now blk)) × (blocks ≤ 1024) × (n ≤ 256) ⌝ }
+    ensures { λ r. ⌜ ((l want : ℕ) → 0 < want → r ≡ firstPage (spread n reserve (fillsOf blocks (now (blk .entry))) 0 l want)) ⌝ }
+{
+    let mut b: usize = 0;
+    while b < blocks as usize {
+        if 0 < room_in(blk, b, n, reserve, 1) {
+            return (b as u32) * n + words::fill_of(blk, b);
+        }
+        b += 1;
+    }
+    0
+}
 
 // m pages more in block b, each of them mapped.
 fn raise(blk: &mut [u32], b: usize, m: u32)
-    requires { ⌜ (stride * b + 1 < length (now blk)) × (fillWord (now blk) b + m < 2 ^ 32) × (validWord (now blk) b + m < 2 ^ 32) ⌝ }
+    requires { ⌜ (HasBlock (now blk) b) × (fillWord (now blk) b + m < 2 ^ 32) × (validWord (now blk) b + m < 2 ^ 32) ⌝ }
     ensures { λ _. ⌜ now (blk .exit) ≡ raised m b (now (blk .entry)) ⌝ }
 {
-    let fill = words::fill_of(blk, b);
-    let valid = words::valid_of(blk, b);
-    words::put_fill(blk, b, fill + m);
-    words::put_valid(blk, b, valid + m);
-}
-
-// Piece k of the answer.
-fn list(out: &mut [u32], k: usize, l: u32, p: u32, c: u32)
-    requires { ⌜ 3 * k + 3 ≤ length (now out) ⌝ }
-    ensures { λ _. ⌜ now (out .exit) ≡ sets (now (out .entry)) (3 * k) (l ∷ p ∷ c ∷ []) ⌝ }
-{
-    let at = 3 * k;
-    out[at] = l;
-    out[at + 1] = p;
-    out[at + 2] = c;
+    let r = words::block_at(blk, b);
+    let mut more = r;
+    more.fill = r.fill + m;
+    more.valid = r.valid + m;
+    words::put_block(blk, b, more);
 }
 
 // One block's part of a write: the labels of its m pages, its record, and piece k. Nothing where m is 0.
@@ -53,7 +95,12 @@ fn place_in(
     let first = page as usize;
     words::fill_rise(&mut spare[first..first + (m as usize)], l);
     raise(blk, b, m);
-    list(out, k as usize, l, page, m);
+    let piece = Extent {
+        logical: l,
+        physical: page,
+        count: m,
+    };
+    words::put_slot(out, k as usize, piece);
     k + 1
 }
 
@@ -75,7 +122,7 @@ pub fn place(
     let mut k: u32 = 0;
     let mut b: usize = 0;
     while b < blocks as usize {
-        let m = targets::room_in(blk, b, n, reserve, want - done);
+        let m = room_in(blk, b, n, reserve, want - done);
         k = place_in(blk, spare, out, b, n, l + done, m, k);
         done += m;
         b += 1;

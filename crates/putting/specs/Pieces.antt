@@ -8,7 +8,7 @@ use native.Mathlib.Omega.{arith}
 use lib.ListN.{length, getD, take, drop, set, length-append, length-set, length-drop, take-append-drop, List·getD-append}
 use lib.Seq.{take-at, drop-at, set-append-left, length-take-le}
 use Rattle.rules.specs.Counting.{one}
-use Rattle.rules.specs.Extents.{none, extent, lookup, joinable, slot, slotsFrom}
+use Rattle.rules.specs.Extents.{none, extent, lookup, joinable, slot, putSlot, slotsFrom}
 use Rattle.rules.specs.declared.Extent.{Extent}
 use Rattle.laws.specs.Bools.{cases}
 use Rattle.laws.specs.Rows.{Rows, rows-le}
@@ -17,7 +17,7 @@ use Rattle.laws.specs.Cut.{below, from, cut, below-rows}
 use Rattle.laws.specs.Write.{glue, place}
 use Rattle.laws.specs.Counts.{startsBefore, leftJoin, tally, tip, not-next, join-next, no-right, below-joins, below-length}
 use Rattle.laws.specs.Slots.{slots-length, slots-more}
-use Rattle.map.specs.Padded.{padded, Holds, Becomes, became-length, became-slots, became-holds}
+use Rattle.map.specs.Padded.{padded, Holds, Becomes, became-length, became-slots, became-holds, holds-put}
 use Rattle.map.specs.Clip.{blank, at-slot}
 
 -- an extent with c pages more
@@ -177,13 +177,14 @@ module _ (ws : List ℕ) (u i : ℕ) (new : List ℕ) (s : ℕ) (h : Holds ws u)
     }
 
 -- the extent before slot i with c pages more
-pub lengthened-set : (ws : List ℕ) (u i c : ℕ) (ws′ : List ℕ) → 1 ≤ i → i ≤ u
-    → ws′ ≡ padded (length ws) (set (slotsFrom ws 0 u) (i - 1) (extent (slot ws (i - 1) .logical) (slot ws (i - 1) .physical) (slot ws (i - 1) .count + c)))
+pub lengthened-set : (ws : List ℕ) (u i c : ℕ) (ws′ : List ℕ) → Holds ws u → 1 ≤ i → i ≤ u
+    → ws′ ≡ putSlot ws (i - 1) (extent (slot ws (i - 1) .logical) (slot ws (i - 1) .physical) (slot ws (i - 1) .count + c))
     → ws′ ≡ padded (length ws) (lengthened i c (slotsFrom ws 0 u))
 unfolding lengthened
-lengthened-set ws u i c ws′ s t g =
+lengthened-set ws u i c ws′ h s t g =
     let e : i ≡ suc (i - 1) = omega arith in
-    rw e (g ∙ ap (λ (x : Extent). padded (length ws) (set (slotsFrom ws 0 u) (i - 1) (longer c x))) (sym (at-slot ws u (i - 1) (omega arith))))
+    rw e (g ∙ holds-put ws u (i - 1) _ h (omega arith)
+    ∙ ap (λ (x : Extent). padded (length ws) (set (slotsFrom ws 0 u) (i - 1) (longer c x))) (sym (at-slot ws u (i - 1) (omega arith))))
 
 first-piece : (new : List ℕ) (k : ℕ) → 1 ≤ k → slotsFrom new 0 k ≡ slot new 0 ∷ slotsFrom new 1 (k - 1)
 unfolding slotsFrom

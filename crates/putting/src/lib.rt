@@ -1,4 +1,5 @@
 // A write's pieces put into the extents, in place.
+use rules::Extent;
 ghost use mathlib.Core.Path.{_≡_};
 ghost use Prim.Native.Nat.{_+_, _-_, _*_, _<_, _≤_, _^_};
 ghost use lib.ListN.{length};
@@ -16,7 +17,12 @@ fn lengthen(ext: &mut [u32], used: usize, i: usize, c: u32)
     let l = ext[at];
     let p = ext[at + 1];
     let d = ext[at + 2];
-    map::put(ext, used, j, l, p, d + c);
+    let longer = Extent {
+        logical: l,
+        physical: p,
+        count: d + c,
+    };
+    words::put_slot(ext, j, longer);
 }
 
 // The pieces from s up to k come in at slot i. The slots then in use are returned.

@@ -12,6 +12,7 @@ use lib.Seq.{ext-getD, take-append-seam}
 use Rattle.rules.specs.Counting.{count, tabulate}
 use Rattle.rules.specs.Extents.{none, extent, end, lookup, slot, slotsFrom, flat}
 use Rattle.rules.specs.Blocks.{stride, fillWord, validWord, records}
+use Rattle.rules.specs.declared.BlockRecord.{BlockRecord}
 use Rattle.rules.specs.Calls.{over}
 use Rattle.rules.specs.Device.{Device, blocks, lines, at, fill, named, valid, extents, wordsOf}
 use Rattle.rules.specs.Reclaim.{sources, goes, moved, reclaimedAt}
@@ -33,11 +34,11 @@ use Rattle.laws.specs.States.{table-lines}
 use Rattle.laws.specs.Encoded.{reclaim-extents}
 use Rattle.choosing.specs.Covered.{holds, covered, holds-true, true-holds}
 use Rattle.choosing.specs.Ranks.{Ranks, rises, rises-live}
-use Rattle.reclaiming.specs.Remapped.{remapped, laid}
+use Rattle.reclaiming.specs.Remapped.{remapped}
 use Rattle.choosing.specs.Sources.{livePages, pages-same, length-below, length-over}
 use Rattle.reclaiming.specs.Slot.{Ends}
 use Rattle.reclaiming.specs.Labels.{Copied}
-use Rattle.reclaiming.specs.Emptied.{emptied, emptied-length, victim-fill, victim-valid, reserve-fill, reserve-valid, rest-fill, rest-valid}
+use Rattle.reclaiming.specs.Emptied.{emptied, emptied-length, victim-block, reserve-block, rest-block}
 
 -- ---- what the extents hold and what they say of a line
 
@@ -76,13 +77,6 @@ tabulate-same : (fs : List ℕ) → tabulate (length fs) (λ i. getD fs i 0) ≡
 tabulate-same fs =
     ext-getD 0 (tabulate (length fs) (λ i. getD fs i 0)) fs (length-tabulate (length fs) (λ i. getD fs i 0))
     (λ i h. getD-tabulate (length fs) (λ j. getD fs j 0) i 0 (omega (arith, length-tabulate (length fs) (λ j. getD fs j 0))))
-
--- extents laid into the slots of a device are its words
-pub laid-words : (d : Device) → laid (extents d) (3 * d .slots) ≡ wordsOf d .extentWords
-unfolding laid wordsOf
-laid-words d =
-    let e : 3 * d .slots - 3 * length (extents d) ≡ 3 * (d .slots - length (extents d)) = omega arith in
-    ap (λ (k : ℕ). flat (extents d) ++ replicate k 0) e
 
 -- rules 1 and 2 give what the two passes over the slots require
 pub rows-ends : (n hi : ℕ) (ws : List ℕ) (u : ℕ) → hi ≤ none → Rows n 0 none hi (slotsFrom ws 0 u) → Ends ws u
@@ -196,6 +190,8 @@ module _ (d : Device) (s : Sound d) where
         let d′ = reclaimedAt v d in
         let r = d .reserve in
         let new = emptied (d .reserve) v ws in
+        let fillIn : BlockRecord → ℕ = λ x. x .fill in
+        let validIn : BlockRecord → ℕ = λ x. x .valid in
         let apart : d .reserve ≡ v → ⊥ = λ g. e (sym g) in
         let same : blocks (reclaimedAt v d) ≡ blocks d = re-blocks d s v a e in
         let size : length ws ≡ stride * blocks d = ap length eq ∙ records-length (d .fills) 0 (valid d) in
@@ -204,11 +200,11 @@ module _ (d : Device) (s : Sound d) where
         sym (ap (λ (fs : List ℕ). records fs 0 (valid d′)) (sym (tabulate-same (d′ .fills)))
         ∙ words-records (blocks d′) new 0 (fill d′) (valid d′) (emptied-length r v ws ∙ size ∙ ap (λ (k : ℕ). stride * k) (sym same))
         (λ c h. block c
-        (λ q. ap (fill d′) q ∙ re-fill-victim d s v a e ∙ sym (ap (fillWord new) q ∙ victim-fill r v ws (omega arith)))
-        (λ q. ap (fill d′) q ∙ re-fill-reserve d s v a e ∙ sym (ap (fillWord new) q ∙ reserve-fill r v ws (omega (arith, s .kept)) apart ∙ valids v a))
-        (λ f g. re-fill d s v a e c f g ∙ sym (rest-fill r v ws c f g ∙ fills c)))
+        (λ q. ap (fill d′) q ∙ re-fill-victim d s v a e ∙ sym (ap (fillWord new) q ∙ ap fillIn (victim-block r v ws (omega arith))))
+        (λ q. ap (fill d′) q ∙ re-fill-reserve d s v a e ∙ sym (ap (fillWord new) q ∙ ap fillIn (reserve-block r v ws (omega (arith, s .kept)) apart) ∙ valids v a))
+        (λ f g. re-fill d s v a e c f g ∙ sym (ap fillIn (rest-block r v ws c f g) ∙ fills c)))
         (λ c j h k. let at : j ≡ c = omega arith in
         ap (valid d′) at ∙ block c
-        (λ q. ap (valid d′) q ∙ re-valid-victim d s v a e ∙ sym (ap (validWord new) q ∙ victim-valid r v ws (omega arith)))
-        (λ q. ap (valid d′) q ∙ re-valid-reserve d s v a e ∙ sym (ap (validWord new) q ∙ reserve-valid r v ws (omega (arith, s .kept)) apart ∙ valids v a))
-        (λ f g. re-valid d s v a e c (omega arith) f g ∙ sym (rest-valid r v ws c f g ∙ valids c (omega arith)))))
+        (λ q. ap (valid d′) q ∙ re-valid-victim d s v a e ∙ sym (ap (validWord new) q ∙ ap validIn (victim-block r v ws (omega arith))))
+        (λ q. ap (valid d′) q ∙ re-valid-reserve d s v a e ∙ sym (ap (validWord new) q ∙ ap validIn (reserve-block r v ws (omega (arith, s .kept)) apart) ∙ valids v a))
+        (λ f g. re-valid d s v a e c (omega arith) f g ∙ sym (ap validIn (rest-block r v ws c f g) ∙ valids c (omega arith)))))

@@ -25,10 +25,6 @@ use Rattle.choosing.specs.Ranks.{Ranks}
 unfoldable pub remapped : ℕ → ℕ → ℕ → List Extent → List Extent
 remapped n v r es = norm n (map (move (movesTo n (covered es n v) v r)) es)
 
--- extents in the first slots of m words, zeros behind
-unfoldable pub laid : List Extent → ℕ → List ℕ
-laid es m = flat es ++ replicate (m - 3 * length es) 0
-
 -- ---- where a page goes, by the ranks
 
 unfoldable pub place : ℕ → List ℕ → ℕ → ℕ → ℕ → ℕ

@@ -10,25 +10,22 @@ use lib.Dec.{ltb}
 use lib.ListN.{length, getD, set, replicate, length-drop, length-set}
 use lib.Seq.{getD-set-same, getD-set-other}
 use Rattle.rules.specs.Counting.{one, count}
-use Rattle.rules.specs.Extents.{none, extent, end, joinable, slot, slotsFrom, flat}
+use Rattle.rules.specs.Extents.{none, extent, end, joinable, slot, putSlot, slotsFrom, flat}
 use Rattle.rules.specs.declared.Extent.{Extent}
 use Rattle.laws.specs.Bools.{and-split}
-use Rattle.laws.specs.Slots.{slots-length, slots-more, flat-slots}
+use Rattle.laws.specs.Slots.{slots-length, slots-more, flat-slots, put-slot-here, put-slot-else}
 use Rattle.laws.specs.Unique.{extent-path}
 use Rattle.laws.specs.Runs.{joinable-true, join-joined, join-apart}
 use Rattle.laws.specs.Norm.{norm, move}
 use Rattle.words.specs.Parts.{mid-tail, put-tail}
+use Rattle.map.specs.Padded.{padded}
 use Rattle.choosing.specs.Covered.{covered}
 use Rattle.choosing.specs.Ranks.{Ranks}
-use Rattle.reclaiming.specs.Remapped.{remapped, laid, place, places-moved, push, norm-push, push-last}
+use Rattle.reclaiming.specs.Remapped.{remapped, place, places-moved, push, norm-push, push-last}
 
 -- each of u slots ends at or below the greatest word
 abbrev pub Ends : List ℕ → ℕ → Type 0
 Ends ws u = (i : ℕ) → i < u → end (slot ws i) ≤ none
-
--- an extent stored into slot i
-abbrev pub put : List ℕ → ℕ → Extent → List ℕ
-put ws i e = set (set (set ws (3 * i) (e .logical)) (3 * i + 1) (e .physical)) (3 * i + 2) (e .count)
 
 pub slot-same : (ws ws′ : List ℕ) (i : ℕ) → ((k : ℕ) → 3 * i ≤ k → k < 3 * i + 3 → getD ws k 0 ≡ getD ws′ k 0) → slot ws i ≡ slot ws′ i
 slot-same ws ws′ i h =
@@ -95,24 +92,6 @@ pushed-joined n ws w x l t =
       few = omega arith;
     }
 
-put-other : (ws : List ℕ) (i : ℕ) (e : Extent) (k : ℕ) → (3 * i ≤ k → k < 3 * i + 3 → ⊥) → getD (put ws i e) k 0 ≡ getD ws k 0
-put-other ws i e k f =
-    getD-set-other (set (set ws (3 * i) (e .logical)) (3 * i + 1) (e .physical)) (3 * i + 2) k (e .count) 0 (λ g. f (omega arith) (omega arith))
-    ∙ getD-set-other (set ws (3 * i) (e .logical)) (3 * i + 1) k (e .physical) 0 (λ g. f (omega arith) (omega arith))
-    ∙ getD-set-other ws (3 * i) k (e .logical) 0 (λ g. f (omega arith) (omega arith))
-
-put-slot : (ws : List ℕ) (i : ℕ) (e : Extent) → 3 * i + 2 < length ws → slot (put ws i e) i ≡ e
-put-slot ws i e l =
-    let one = set ws (3 * i) (e .logical) in
-    let two = set one (3 * i + 1) (e .physical) in
-    let a = length-set ws (3 * i) (e .logical) in
-    let b = length-set one (3 * i + 1) (e .physical) in
-    extent-path (slot (put ws i e) i) e
-    (getD-set-other two (3 * i + 2) (3 * i) (e .count) 0 (λ g. omega arith)
-    ∙ getD-set-other one (3 * i + 1) (3 * i) (e .physical) 0 (λ g. omega arith) ∙ getD-set-same ws (3 * i) (e .logical) 0 (omega arith))
-    (getD-set-other two (3 * i + 2) (3 * i + 1) (e .count) 0 (λ g. omega arith) ∙ getD-set-same one (3 * i + 1) (e .physical) 0 (omega arith))
-    (getD-set-same two (3 * i + 2) (e .count) 0 (omega arith))
-
 -- behind no slot, or behind one that it is not joinable with
 push-apart : (n : ℕ) (ws : List ℕ) (w : ℕ) (x : Extent) → joinsLast n ws w x ≡ false → push n (slotsFrom ws 0 w) x ≡ slotsFrom ws 0 w ++ x ∷ []
 unfolding slotsFrom push
@@ -127,13 +106,13 @@ push-apart n ws (suc j) x t =
     ∙ ap (λ (es : List Extent). slotsFrom ws 0 j ++ es) (join-apart n (slot ws j) x [] e′)
     ∙ sym (ap (λ (es : List Extent). es ++ x ∷ []) more ∙ append-assoc (slotsFrom ws 0 j) (slot ws j ∷ []) (x ∷ []))
 
-pub pushed-apart : (n : ℕ) (ws ws′ : List ℕ) (w : ℕ) (x : Extent) → 3 * w + 2 < length ws → joinsLast n ws w x ≡ false → ws′ ≡ put ws w x
+pub pushed-apart : (n : ℕ) (ws ws′ : List ℕ) (w : ℕ) (x : Extent) → 3 * w + 2 < length ws → joinsLast n ws w x ≡ false → ws′ ≡ putSlot ws w x
     → Pushed n ws w x ws′ (w + 1)
 pushed-apart n ws ws′ w x l t e = subst (λ (zs : List ℕ). Pushed n ws w x zs (w + 1)) (sym e) record {
-  done = slots-more (put ws w x) 0 w w (omega arith)
-      ∙ ap₂ (λ (es : List Extent) (y : Extent). es ++ y ∷ []) (slots-same (put ws w x) ws 0 w (λ k p q. put-other ws w x k (λ a b. omega arith))) (put-slot ws w x l)
+  done = slots-more (putSlot ws w x) 0 w w (omega arith)
+      ∙ ap₂ (λ (es : List Extent) (y : Extent). es ++ y ∷ []) (slots-same (putSlot ws w x) ws 0 w (λ k p q. put-slot-else ws w x k (λ a b. omega arith))) (put-slot-here ws w x l)
       ∙ sym (push-apart n ws w x t);
-  rest = λ k p. put-other ws w x k (λ a b. omega arith);
+  rest = λ k p. put-slot-else ws w x k (λ a b. omega arith);
   few = omega arith;
 }
 
@@ -167,8 +146,8 @@ packed-length g n ws ws′ i w h = sym (slots-length ws′ 0 w) ∙ ap length (h
 -- and zeros behind them
 pub packed-end : (g : ℕ → ℕ) (n : ℕ) (ws ws′ ys : List ℕ) (i w : ℕ) → 3 * i ≤ length ws → length ws′ ≡ length ws → Packed g n ws i ws′ w
     → ys ≡ replicate (length (midOf (3 * w) (length ws′ - 3 * w) ws′)) 0
-    → putMid (3 * w) (length ws′ - 3 * w) ws′ ys ≡ laid (norm n (map (move g) (slotsFrom ws 0 i))) (length ws)
-unfolding laid
+    → putMid (3 * w) (length ws′ - 3 * w) ws′ ys ≡ padded (length ws) (norm n (map (move g) (slotsFrom ws 0 i)))
+unfolding padded
 packed-end g n ws ws′ ys i w l m h e =
     let few = h .few in
     let size : length (midOf (3 * w) (length ws′ - 3 * w) ws′) ≡ length ws - 3 * length (norm n (map (move g) (slotsFrom ws 0 i))) =

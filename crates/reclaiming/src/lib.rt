@@ -1,20 +1,21 @@
 // What a reclaim does to lent words: the labels, the block records and the map, each by itself. It stands behind the refusals: what a sound
 // state promises is required here.
+use rules::BlockRecord;
 use rules::Extent;
 ghost use mathlib.Core.Path.{_≡_};
 ghost use Prim.Native.Nat.{ℕ, _+_, _*_, _<_, _≤_};
 ghost use lib.ListN.{length, getD, take};
-ghost use Rattle.rules.specs.Blocks.{stride};
+ghost use Rattle.rules.specs.Blocks.{HasBlock};
 ghost use Rattle.rules.specs.Extents.{none, end, joinable, slot, slotsFrom};
-ghost use Rattle.laws.specs.Cells.{swept};
-ghost use Rattle.laws.specs.Cells.{copies};
+ghost use Rattle.laws.specs.Cells.{copies, swept};
 ghost use Rattle.laws.specs.Norm.{move};
+ghost use Rattle.map.specs.Padded.{padded};
 ghost use Rattle.choosing.specs.Covered.{covered};
 ghost use Rattle.choosing.specs.Ranks.{Ranks, Movable};
-ghost use Rattle.reclaiming.specs.Remapped.{place, remapped, laid};
-ghost use Rattle.reclaiming.specs.Slot.{Ends, put, joinsLast, Pushed};
+ghost use Rattle.reclaiming.specs.Remapped.{place, remapped};
+ghost use Rattle.reclaiming.specs.Slot.{Ends, joinsLast, Pushed};
 ghost use Rattle.reclaiming.specs.Labels.{Copied};
-ghost use Rattle.reclaiming.specs.Emptied.{putRecord, emptied};
+ghost use Rattle.reclaiming.specs.Emptied.{emptied};
 
 // The page that page p goes to.
 fn page_after(p: u32, n: u32, v: u32, r: u32, ranks: &[u32]) -> u32
@@ -55,34 +56,19 @@ pub fn move_labels(spare: &mut [u32], out: &[u32], k: usize, n: u32, r: u32, v: 
     words::fill_with(&mut spare[from..from + pages], NONE);
 }
 
-fn put_record(blk: &mut [u32], b: usize, fill: u32, valid: u32)
-    requires { ⌜ stride * b + 1 < length (now blk) ⌝ }
-    ensures { λ _. ⌜ now (blk .exit) ≡ putRecord (now (blk .entry)) b fill valid ⌝ }
-{
-    words::put_fill(blk, b, fill);
-    words::put_valid(blk, b, valid);
-}
-
 // The old reserve has the victim's valid pages and nothing else, and the victim nothing.
 pub fn move_blocks(blk: &mut [u32], r: u32, v: u32)
-    requires { ⌜ (stride * r + 1 < length (now blk)) × (stride * v + 1 < length (now blk)) ⌝ }
+    requires { ⌜ (HasBlock (now blk) r) × (HasBlock (now blk) v) ⌝ }
     ensures { λ _. ⌜ now (blk .exit) ≡ emptied r v (now (blk .entry)) ⌝ }
 {
     let valid = words::valid_of(blk, v as usize);
-    put_record(blk, r as usize, valid, valid);
-    put_record(blk, v as usize, 0, 0);
-}
-
-fn slot_at(ext: &[u32], i: usize) -> Extent
-    requires { ⌜ 3 * i + 2 < length (now ext) ⌝ }
-    ensures { λ e. ⌜ e ≡ slot (now (ext .entry)) i ⌝ }
-{
-    let at = 3 * i;
-    Extent {
-        logical: ext[at],
-        physical: ext[at + 1],
-        count: ext[at + 2],
-    }
+    let full = BlockRecord {
+        fill: valid,
+        valid: valid,
+    };
+    let empty = BlockRecord { fill: 0, valid: 0 };
+    words::put_block(blk, r as usize, full);
+    words::put_block(blk, v as usize, empty);
 }
 
 // Ends as whole numbers.
@@ -113,16 +99,6 @@ fn slot_after(ext: &[u32], i: usize, n: u32, v: u32, r: u32, ranks: &[u32]) -> E
     }
 }
 
-fn put_slot(ext: &mut [u32], i: usize, e: Extent)
-    requires { ⌜ 3 * i + 2 < length (now ext) ⌝ }
-    ensures { λ _. ⌜ now (ext .exit) ≡ put (now (ext .entry)) i e ⌝ }
-{
-    let at = 3 * i;
-    ext[at] = e.logical;
-    ext[at + 1] = e.physical;
-    ext[at + 2] = e.count;
-}
-
 // Extent x is joinable with the last of the first w slots.
 fn joins_last(ext: &[u32], w: usize, x: Extent, n: u32) -> bool
     requires { ⌜ (1 ≤ n) × (3 * w ≤ length (now ext)) ⌝ }
@@ -131,7 +107,7 @@ fn joins_last(ext: &[u32], w: usize, x: Extent, n: u32) -> bool
     if w == 0 {
         return false;
     }
-    joins(slot_at(ext, w - 1), x, n)
+    joins(words::slot_at(ext, w - 1), x, n)
 }
 
 // Extent x pushed behind the first w slots: how many stand then.
@@ -144,7 +120,7 @@ fn push_slot(ext: &mut [u32], w: usize, x: Extent, n: u32) -> usize
         ext[at] += x.count;
         return w;
     }
-    put_slot(ext, w, x);
+    words::put_slot(ext, w, x);
     w + 1
 }
 
@@ -152,7 +128,7 @@ fn push_slot(ext: &mut [u32], w: usize, x: Extent, n: u32) -> usize
 pub fn move_map(ext: &mut [u32], used: usize, n: u32, v: u32, r: u32, ranks: &[u32]) -> usize
     requires { ⌜ (3 * used ≤ length (now ext)) × (1 ≤ n) × (r * n + n ≤ none) × Ranks n (covered (slotsFrom (now ext) 0 used) n v) (now ranks) × Ends (now ext) used ⌝ }
     ensures { λ w. ⌜ (w ≡ length (remapped n v r (slotsFrom (now (ext .entry)) 0 used)))
-        × (now (ext .exit) ≡ laid (remapped n v r (slotsFrom (now (ext .entry)) 0 used)) (length (now (ext .entry)))) ⌝ }
+        × (now (ext .exit) ≡ padded (length (now (ext .entry))) (remapped n v r (slotsFrom (now (ext .entry)) 0 used))) ⌝ }
 {
     let mut w: usize = 0;
     let mut i: usize = 0;

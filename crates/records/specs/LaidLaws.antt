@@ -5,7 +5,7 @@ use mathlib.Core.Path.{_≡_, refl, ap, _∙_}
 use mathlib.Core.List.{List, [], _∷_}
 use lib.ListN.{length, getD, take, drop, set}
 use Rattle.rules.specs.declared.Extent.{Extent}
-use Rattle.rules.specs.Extents.{extent, flat}
+use Rattle.rules.specs.Extents.{extent, putSlot, flat}
 use Rattle.laws.specs.Slots.{flat-length}
 use Rattle.records.specs.Laid.{put, laidAt, laid, First}
 
@@ -13,9 +13,9 @@ use Rattle.records.specs.Laid.{put, laidAt, laid, First}
 abbrev pub blank : Extent
 blank = extent 0 0 0
 
--- three stores put the extent
-pub put-set : (ws : List ℕ) (i : ℕ) (e : Extent) → 3 * i + 2 < length ws → set (set (set ws (3 * i) (e .logical)) (3 * i + 1) (e .physical)) (3 * i + 2) (e .count) ≡ put ws i e
-unfolding put
+-- storing the slot puts the extent
+pub put-set : (ws : List ℕ) (i : ℕ) (e : Extent) → 3 * i + 2 < length ws → putSlot ws i e ≡ put ws i e
+unfolding put putSlot
 put-set [] i e l = absurd (omega (arith, l))
 put-set (a ∷ []) i e l = absurd (omega (arith, l))
 put-set (a ∷ b ∷ []) i e l = absurd (omega (arith, l))

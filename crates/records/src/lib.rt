@@ -20,10 +20,7 @@ fn put_extent(words: &mut [u32], i: usize, e: Extent)
     ensures { λ _. ⌜ now (words .exit) ≡ put (now (words .entry)) i e ⌝ }
 {
     if i < words.len() / 3 {
-        let at = 3 * i;
-        words[at] = e.logical;
-        words[at + 1] = e.physical;
-        words[at + 2] = e.count;
+        words::put_slot(words, i, e);
     }
 }
 

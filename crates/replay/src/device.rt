@@ -8,6 +8,8 @@ use rules::Done;
 use rules::Head;
 use rules::Listed;
 use rules::Refusal;
+use rules::kept;
+use rules::sizes_only;
 
 // The most of B, of B x N and of M that is held: those of the largest device.
 const MOST_BLOCKS: usize = 1024;
@@ -55,15 +57,7 @@ impl Device {
     // Before the first accepted fresh nothing is lent.
     pub fn new() -> Self {
         Self {
-            head: Head {
-                blocks: 0,
-                pages: 0,
-                logical: 0,
-                slots: 0,
-                used: 0,
-                reserve: 0,
-                last: 0,
-            },
+            head: sizes_only(0, 0, 0, 0),
             extents: 0,
             blocks: 0,
             spare: 0,
@@ -103,7 +97,7 @@ impl Device {
             word::SLOTS => head.slots = word,
             word::USED => head.used = word,
             word::RESERVE => head.reserve = word,
-            _ => head.last = value,
+            _ => head.last = kept(value),
         }
         self.headed(head).says(Answer::Ok)
     }

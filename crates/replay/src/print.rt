@@ -143,7 +143,7 @@ impl Sink {
             .word(page, head.slots as u64);
         let s = s.word(page, head.used as u64)
             .word(page, head.reserve as u64);
-        s.word(page, head.last).byte(page, b'\n')
+        s.word(page, head.last.number).byte(page, b'\n')
     }
 
     // A buffer as `state` shows it.

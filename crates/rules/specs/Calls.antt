@@ -12,7 +12,7 @@ use Rattle.rules.specs.Device.{Device, lines, free, live, stale, extents
 use Rattle.rules.specs.Placement.{puts, pieces}
 use Rattle.rules.specs.Reclaim.{victim, sources, reclaimed}
 use Rattle.rules.specs.Read.{found}
-use Rattle.rules.specs.Request.{judged, written, trimmed}
+use Rattle.rules.specs.Request.{judged, kept, written, trimmed}
 use Rattle.rules.specs.Answers.{Outcome, refuse, number}
 use Rattle.rules.specs.declared.Head.{Head}
 use Rattle.rules.specs.declared.Refusal.{Refusal}
@@ -161,12 +161,12 @@ freshDevice b n l m = record {
   fills = replicate b 0;
   spare = replicate (b * n) none;
   reserve = b - 1;
-  last = 0;
+  last = kept 0;
 }
 
 -- 01, Refusals: a refused fresh's head holds the four sizes as given and zero elsewhere
-unfoldable pub sizesOnly : ℕ → ℕ → ℕ → ℕ → Head
-sizesOnly b n l m = record { blocks = b; pages = n; logical = l; slots = m; used = 0; reserve = 0; last = 0 }
+abbrev pub sizesOnly : ℕ → ℕ → ℕ → ℕ → Head
+sizesOnly b n l m = record { blocks = b; pages = n; logical = l; slots = m; used = 0; reserve = 0; last = kept 0 }
 
 -- fresh is given B, N, L and M alone, tests only these and the lengths, and takes no heed of old contents
 unfoldable pub fresh : ℕ → ℕ → ℕ → ℕ → List ℕ → List ℕ → List ℕ → Outcome Lent

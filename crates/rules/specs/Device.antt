@@ -1,5 +1,5 @@
 -- The plain device: a table with one line per logical page in place of the extents, beside the fills, the labels, the reserve and the
--- last number. Its three counts; and the way from lent words to it and back.
+-- last request. Its three counts; and the way from lent words to it and back.
 use Prim.Native.Nat.{ℕ, zero, suc, _+_, _-_, _*_, _/_}
 use mathlib.Core.Bool.{Bool, not, cond, _&&_}
 use mathlib.Core.List.{List, []}
@@ -11,6 +11,7 @@ use Rattle.rules.specs.Extents.{none, lookup, runs, flat}
 use Rattle.rules.specs.Blocks.{records}
 use Rattle.rules.specs.Lent.{Lent, inUse, fillOf}
 use Rattle.rules.specs.declared.Head.{Head}
+use Rattle.rules.specs.declared.Last.{Last}
 use Rattle.rules.specs.declared.Extent.{Extent}
 
 pub record Device : Type 0 where
@@ -22,7 +23,8 @@ pub record Device : Type 0 where
   pub fills : List ℕ
   pub spare : List ℕ
   pub reserve : ℕ
-  pub last : ℕ
+  -- the last accepted request
+  pub last : Last
 
 abbrev pub blocks : Device → ℕ
 blocks d = length (d .fills)

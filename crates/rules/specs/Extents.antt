@@ -4,7 +4,7 @@ use Prim.Native.Nat.{ℕ, zero, suc, _+_, _-_, _*_, _/_}
 use mathlib.Core.Bool.{Bool, cond, _&&_}
 use mathlib.Core.List.{List, [], _∷_}
 use lib.Dec.{eqb, ltb}
-use lib.ListN.{getD}
+use lib.ListN.{getD, set}
 use Rattle.rules.specs.declared.Extent.{Extent}
 
 -- 01, Numbers: the word that marks an erased spare entry, and a hole in a read
@@ -45,6 +45,10 @@ runs n l (p ∷ ps) = cond (eqb p none) (runs n (suc l) ps) (join n (extent l p 
 
 abbrev pub slot : List ℕ → ℕ → Extent
 slot ws i = extent (getD ws (3 * i) 0) (getD ws (3 * i + 1) 0) (getD ws (3 * i + 2) 0)
+
+-- extent e in the place of slot i
+unfoldable pub putSlot : List ℕ → ℕ → Extent → List ℕ
+putSlot ws i e = set (set (set ws (3 * i) (e .logical)) (3 * i + 1) (e .physical)) (3 * i + 2) (e .count)
 
 -- u slots from slot i on
 unfoldable pub slotsFrom : List ℕ → ℕ → ℕ → List Extent

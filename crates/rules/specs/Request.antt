@@ -9,11 +9,12 @@ use Rattle.rules.specs.Extents.{none}
 use Rattle.rules.specs.Device.{Device}
 use Rattle.rules.specs.Placement.{puts}
 use Rattle.rules.specs.Answers.{number, refuse}
+use Rattle.rules.specs.declared.Last.{Last}
 use Rattle.rules.specs.declared.Refusal.{Refusal}
 
 -- 01, Refusals, 4: number not above the last number
 unfoldable pub applied : ℕ → Device → Bool
-applied k d = leb k (d .last)
+applied k d = leb k (d .last .number)
 
 -- the test of a number: 4 where it applies, what the later tests give where it does not
 unfoldable pub judged : ℕ → Device → ℕ → ℕ
@@ -23,7 +24,11 @@ judged k d later = refuse (applied k d) Refusal.Applied later
 unfoldable pub usedUp : ℕ → Bool
 usedUp r = eqb r (number Refusal.Applied)
 
--- an accepted write or trim sets the last number to its own
+-- an accepted write or trim sets the last number to its own: what is known of it afterwards
+abbrev pub kept : ℕ → Last
+kept k = record { number = k }
+
+-- the device that an accepted one leaves, its lines given
 unfoldable pub withTable : List ℕ → ℕ → Device → Device
 withTable table k d = record {
   pages = d .pages;
@@ -32,7 +37,7 @@ withTable table k d = record {
   fills = d .fills;
   spare = d .spare;
   reserve = d .reserve;
-  last = k;
+  last = kept k;
 }
 
 unfoldable pub numbered : ℕ → Device → Device

@@ -17,8 +17,8 @@ use Rattle.laws.specs.Shapes.{shaped-true}
 use Rattle.laws.specs.Sanes.{sound-sane, sane-sound}
 use Rattle.words.specs.Says.{Says, says-for, is-no, is-said}
 use Rattle.words.specs.Scans.{part-mid, same-says}
-use Rattle.rows.specs.Walk.{Given, Rowed}
-use Rattle.counts.specs.Block.{Block}
+use Rattle.slots.specs.Walk.{Given, Rowed}
+use Rattle.blocks.specs.Block.{Block}
 
 -- what the head says of the words: rule 1 on slots in use and not, and rule 6
 pub record Headed (h : Head) (ext blk : List ℕ) : Type 0 where

@@ -92,7 +92,7 @@ pub fn is_sound(h: Head, ext: &[u32], blk: &[u32], spare: &[u32]) -> bool
         return false;
     }
     let mut tally = [0u32; 1024];
-    if !rows::walk(
+    if !slots::walk(
         ext,
         blk,
         spare,
@@ -104,7 +104,7 @@ pub fn is_sound(h: Head, ext: &[u32], blk: &[u32], spare: &[u32]) -> bool
     ) {
         return false;
     }
-    counts::blocks_ok(
+    blocks::blocks_ok(
         blk,
         spare,
         h.blocks as usize,

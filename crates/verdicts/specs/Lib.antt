@@ -2,3 +2,4 @@ pub mod Refusals
 pub mod Numbered
 pub mod Reading
 pub mod Trimming
+pub mod Reclaiming

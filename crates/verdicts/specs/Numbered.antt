@@ -16,20 +16,20 @@ use Rattle.verdicts.specs.declared.Verdict.{Verdict}
 
 -- 4, or 0
 unfoldable pub numberRefusal : Head → ℕ → ℕ
-numberRefusal h k = refuse (leb k (h .last)) Refusal.Applied 0
+numberRefusal h k = refuse (leb k (h .last .number)) Refusal.Applied 0
 
-pub number-applied : (h : Head) (k : ℕ) → k ≤ h .last → number Refusal.Applied ≡ numberRefusal h k
+pub number-applied : (h : Head) (k : ℕ) → k ≤ h .last .number → number Refusal.Applied ≡ numberRefusal h k
 unfolding numberRefusal
-number-applied h k e = sym (refuse-here (leb k (h .last)) Refusal.Applied 0 (le-leb k (h .last) e))
+number-applied h k e = sym (refuse-here (leb k (h .last .number)) Refusal.Applied 0 (le-leb k (h .last .number) e))
 
-pub number-new : (h : Head) (k : ℕ) → h .last < k → 0 ≡ numberRefusal h k
+pub number-new : (h : Head) (k : ℕ) → h .last .number < k → 0 ≡ numberRefusal h k
 unfolding numberRefusal
-number-new h k e = sym (refuse-later (leb k (h .last)) Refusal.Applied 0 (lt-leb k (h .last) e))
+number-new h k e = sym (refuse-later (leb k (h .last .number)) Refusal.Applied 0 (lt-leb k (h .last .number) e))
 
 -- what it tells of the rules' test, wherever that stands in the order
 number-first : (s : Lent) (k : ℕ) (v : Verdict) → told v ≡ numberRefusal (s .head) k → (later : ℕ) → firstOf v later ≡ judged k (deviceOf s) later
 unfolding numberRefusal judged applied deviceOf
-number-first s k v e later = first-refuse v (leb k (s .head .last)) Refusal.Applied e later
+number-first s k v e later = first-refuse v (leb k (s .head .last .number)) Refusal.Applied e later
 
 -- ---- 3, then 4, as a write and a trim are tested
 

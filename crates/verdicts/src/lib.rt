@@ -1,5 +1,5 @@
 // What a call is refused for, the first refusal that applies in the paper's order, decided over shared slices before anything is touched. A write's
-// verdict stands in `writable`, a reclaim's in `reclaimable`.
+// verdict stands in `writable`.
 use map::Sides;
 use rules::Head;
 use rules::Refusal;
@@ -10,12 +10,13 @@ ghost use lib.Dec.{eqb, ltb};
 ghost use Rattle.rules.specs.Lent.{lent, inUse};
 ghost use Rattle.rules.specs.Device.{deviceOf};
 ghost use Rattle.rules.specs.Answers.{refuse};
-ghost use Rattle.rules.specs.Calls.{readRefusal, trimRefusal};
+ghost use Rattle.rules.specs.Calls.{readRefusal, trimRefusal, reclaimRefusal};
 ghost use Rattle.laws.specs.Sane.{Shaped, Sane};
 ghost use Rattle.map.specs.Halved.{endsBy};
 ghost use Rattle.map.specs.Around.{Beside};
 ghost use Rattle.verdicts.specs.Refusals.{told, firstOf, lentRefusal, roomed};
 ghost use Rattle.verdicts.specs.Numbered.{numberRefusal};
+ghost use Rattle.rules.specs.Reclaim.{victim};
 
 pub enum Verdict {
     Accepted,
@@ -88,7 +89,7 @@ pub fn read_verdict(
 pub fn number_verdict(h: Head, number: u64) -> Verdict
     ensures { λ v. ⌜ told v ≡ numberRefusal h number ⌝ }
 {
-    if number <= h.last {
+    if number <= h.last.number {
         return Verdict::Refused(Refusal::Applied);
     }
     Verdict::Accepted
@@ -116,4 +117,26 @@ pub fn trim_verdict(
     }
     let fits = sides.before + sides.after <= h.slots as usize;
     unless(fits, Refusal::NoNodes)
+}
+
+// 8 and 7 of a reclaim, of a sound state whose victim is block v. It has most stale pages: where it has none, no page is stale.
+pub fn reclaim_verdict(
+    h: Head,
+    ext: &[u32],
+    blk: &[u32],
+    spare: &[u32],
+    v: u32,
+    room: usize,
+) -> Verdict
+    requires { ⌜ Shaped (lent h (now ext) (now blk) (now spare)) × Sane (lent h (now ext) (now blk) (now spare)) ⌝ }
+    requires { ⌜ v ≡ victim (deviceOf (lent h (now ext) (now blk) (now spare))) ⌝ }
+    ensures { λ w. ⌜ told w ≡ reclaimRefusal (roomed room) (deviceOf (lent h (now (ext .entry)) (now (blk .entry)) (now (spare .entry)))) ⌝ }
+{
+    let stale = choosing::stale_of(blk, v as usize);
+    let copies = words::valid_of(blk, v as usize);
+    let gains = 0 < stale;
+    let listed = (copies as usize) <= room;
+    let nothing = unless(gains, Refusal::NothingStale);
+    let short = unless(listed, Refusal::OutShort);
+    first_of(nothing, short)
 }

@@ -1,19 +1,22 @@
-// Leaves on lent words: the words of a block record, scans of a part, and stores into a part. What a block record holds, and how far
-// apart two records stand, is known here and in specs/Blocks.antt of `rules`, and nowhere else in the code.
+// Leaves on lent words: the record of a block, the slot of an extent, scans of a part, and stores into a part. What a block record holds,
+// and how far apart two records stand, is known here and in specs/Blocks.antt of `rules`, and nowhere else in the code.
+use rules::BlockRecord;
+use rules::Extent;
 ghost use mathlib.Core.Path.{_≡_};
 ghost use Prim.Native.Nat.{_+_, _-_, _*_, _<_, _≤_, _^_};
 ghost use mathlib.Core.List.{_∷_, _++_};
-ghost use lib.ListN.{length, getD, set, take, drop, replicate};
+ghost use lib.ListN.{length, getD, take, drop, replicate};
 ghost use lib.Dec.{eqb, ltb};
 ghost use Rattle.rules.specs.Counting.{all, tabulate};
-ghost use Rattle.rules.specs.Blocks.{stride, fillWord, validWord};
+ghost use Rattle.rules.specs.Blocks.{fillWord, validWord, HasBlock, blockAt, putBlock};
+ghost use Rattle.rules.specs.Extents.{slot, putSlot};
 
 pub const STRIDE: usize = 2;
 
 // ---- block records
 
 pub fn fill_of(blk: &[u32], b: usize) -> u32
-    requires { ⌜ stride * b + 1 < length (now blk) ⌝ }
+    requires { ⌜ HasBlock (now blk) b ⌝ }
     ensures { λ r. ⌜ r ≡ fillWord (now (blk .entry)) b ⌝ }
 {
     let at = STRIDE * b;
@@ -21,27 +24,59 @@ pub fn fill_of(blk: &[u32], b: usize) -> u32
 }
 
 pub fn valid_of(blk: &[u32], b: usize) -> u32
-    requires { ⌜ stride * b + 1 < length (now blk) ⌝ }
+    requires { ⌜ HasBlock (now blk) b ⌝ }
     ensures { λ r. ⌜ r ≡ validWord (now (blk .entry)) b ⌝ }
 {
     let at = STRIDE * b;
     blk[at + 1]
 }
 
-pub fn put_fill(blk: &mut [u32], b: usize, x: u32)
-    requires { ⌜ stride * b + 1 < length (now blk) ⌝ }
-    ensures { λ _. ⌜ now (blk .exit) ≡ set (now (blk .entry)) (stride * b) x ⌝ }
+// The record of block b.
+pub fn block_at(blk: &[u32], b: usize) -> BlockRecord
+    requires { ⌜ HasBlock (now blk) b ⌝ }
+    ensures { λ r. ⌜ r ≡ blockAt (now (blk .entry)) b ⌝ }
 {
     let at = STRIDE * b;
-    blk[at] = x;
+    BlockRecord {
+        fill: blk[at],
+        valid: blk[at + 1],
+    }
 }
 
-pub fn put_valid(blk: &mut [u32], b: usize, x: u32)
-    requires { ⌜ stride * b + 1 < length (now blk) ⌝ }
-    ensures { λ _. ⌜ now (blk .exit) ≡ set (now (blk .entry)) (stride * b + 1) x ⌝ }
+// The record of block b becomes r.
+pub fn put_block(blk: &mut [u32], b: usize, r: BlockRecord)
+    requires { ⌜ HasBlock (now blk) b ⌝ }
+    ensures { λ _. ⌜ now (blk .exit) ≡ putBlock (now (blk .entry)) b r ⌝ }
 {
     let at = STRIDE * b;
-    blk[at + 1] = x;
+    blk[at] = r.fill;
+    blk[at + 1] = r.valid;
+}
+
+// ---- slots: three words an extent
+
+// The extent in slot i.
+pub fn slot_at(ws: &[u32], i: usize) -> Extent
+    requires { ⌜ 3 * i + 2 < length (now ws) ⌝ }
+    ensures { λ e. ⌜ e ≡ slot (now (ws .entry)) i ⌝ }
+{
+    let at = 3 * i;
+    Extent {
+        logical: ws[at],
+        physical: ws[at + 1],
+        count: ws[at + 2],
+    }
+}
+
+// The extent in slot i becomes e.
+pub fn put_slot(ws: &mut [u32], i: usize, e: Extent)
+    requires { ⌜ 3 * i + 2 < length (now ws) ⌝ }
+    ensures { λ _. ⌜ now (ws .exit) ≡ putSlot (now (ws .entry)) i e ⌝ }
+{
+    let at = 3 * i;
+    ws[at] = e.logical;
+    ws[at + 1] = e.physical;
+    ws[at + 2] = e.count;
 }
 
 // ---- scans without an exit, so that they vectorise

@@ -15,7 +15,7 @@ use Rattle.laws.specs.Growth.{write-grows}
 use Rattle.laws.specs.Spread.{firstPage, spread}
 use Rattle.laws.specs.States.{device-lines, extents-in-use, sane-good}
 use Rattle.map.specs.Around.{Beside, joinsBefore, joins-before}
-use Rattle.targets.specs.Bare.{fillsOf, bare-device, pieces-on, first-on}
+use Rattle.placing.specs.Bare.{fillsOf, bare-device, pieces-on, first-on}
 use Rattle.verdicts.specs.Trimming.{few-around}
 use Rattle.writable.specs.declared.Meeting.{Meeting}
 

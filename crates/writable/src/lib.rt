@@ -26,7 +26,7 @@ pub fn meeting_of(h: Head, ext: &[u32], blk: &[u32], spare: &[u32], l: u32, n: u
     ensures { λ m. ⌜ Meets l n (lent h (now (ext .entry)) (now (blk .entry)) (now (spare .entry))) m ⌝ }
 {
     let sides = map::around(ext, h.used as usize, l, n);
-    let p = targets::first_page(blk, h.blocks, h.pages, h.reserve);
+    let p = placing::first_page(blk, h.blocks, h.pages, h.reserve);
     let joined = map::joins_left(ext, sides.before, h.pages, l, p);
     Meeting {
         sides: sides,
@@ -68,10 +68,10 @@ pub fn write_verdict(
     if let Verdict::Refused(r) = asked {
         return Verdict::Refused(r);
     }
-    if counts::totals_of(h, blk).free < n {
+    if blocks::totals_of(h, blk).free < n {
         return Verdict::Refused(Refusal::NoPages);
     }
-    let k = targets::pieces_of(blk, h.blocks, h.pages, h.reserve, n);
+    let k = placing::pieces_of(blk, h.blocks, h.pages, h.reserve, n);
     let nodes = nodes_after(m, k);
     let fits = nodes <= h.slots as usize;
     let listed = (k as usize) <= room / 3;

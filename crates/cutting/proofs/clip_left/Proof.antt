@@ -1,12 +1,13 @@
--- No extent, one that starts in time, or one that is clipped.
-use Rattle.map.specs.Clip.{left-none, left-same, left-set}
 use native.Mathlib.Omega.{arith}
+use Rattle.map.specs.Clip.{left-none, left-same, left-set}
 use borrow.Author.Needs.{needs}
 use Rattle.cutting.proofs.clip_left.Statement.{statement}
 use Rattle.cutting.proofs.clip_left.Tie as tie
 
 returns : tie.Need-returns
-returns c = left-none (c .before .before .args .ext .now) (c .before .before .args .used) (c .before .before .pre .0) _ _ (omega arith)
+returns c =
+    let s = c .before .before in
+    left-none (s .args .ext .now) (s .args .used) (s .pre .0) _ _ (omega arith)
 
 mul-at : tie.Need-mul-at
 mul-at c = search needs
@@ -18,7 +19,9 @@ slice-read-q : tie.Need-slice-read-q
 slice-read-q c = search needs
 
 returns-2 : tie.Need-returns-2
-returns-2 c = left-same (c .before .before .before .before .args .ext .now) (c .before .before .before .before .args .used) (c .before .before .before .before .pre .0) _ _ (omega arith) (omega arith)
+returns-2 c =
+    let s = c .before .before .before .before in
+    left-same (s .args .ext .now) (s .args .used) (s .pre .0) _ _ (omega arith) (omega arith)
 
 add-p : tie.Need-add-p
 add-p c = search needs
@@ -38,26 +41,28 @@ mul-c c = search needs
 slice-read-c : tie.Need-slice-read-c
 slice-read-c c = search needs
 
-sub-put : tie.Need-sub-put
-sub-put c = search needs
+sub-t13 : tie.Need-sub-t13
+sub-t13 c = search needs
 
-add-put : tie.Need-add-put
-add-put c = let b = c .before .before .before .before .before .before .before .pre .1 (omega arith) in omega arith
+add-t17 : tie.Need-add-t17
+add-t17 c = let b = c .before .before .before .before .before .before .pre .1 (omega arith) in omega arith
 
-sub-put-2 : tie.Need-sub-put-2
-sub-put-2 c = search needs
+sub-t18 : tie.Need-sub-t18
+sub-t18 c = search needs
 
-sub-put-3 : tie.Need-sub-put-3
-sub-put-3 c = let b = c .before .before .before .before .before .before .before .pre .1 (omega arith) in omega arith
+sub-t19 : tie.Need-sub-t19
+sub-t19 c = let b = c .before .before .before .before .before .before .pre .1 (omega arith) in omega arith
 
-put-requires : tie.Need-put-requires
-put-requires c κs = search needs
+put-slot-requires : tie.Need-put-slot-requires
+put-slot-requires c κs = search needs
 
 same-length : tie.Need-same-length
 same-length c = search needs
 
 returns-3 : tie.Need-returns-3
-returns-3 c = left-set (c .before .before .before .before .before .before .before .before .before .before .args .ext .now) (c .before .before .before .before .before .before .before .before .before .before .args .used) (c .before .before .before .before .before .before .before .before .before .before .pre .0) (c .before .before .before .before .before .before .before .before .before .before .args .e) (c .before .before .before .before .before .before .before .before .before .before .args .z) _ (omega arith) (omega arith) (c .before .before .put .ensures)
+returns-3 c =
+    let s = c .before .before .before .before .before .before .before .before .before .before in
+    left-set (s .args .ext .now) (s .args .used) (s .pre .0) (s .args .e) (s .args .z) _ (omega arith) (omega arith) (c .before .before .put-slot .ensures)
 
 pub clip-left-spec : {M : Type 1} → statement M
 clip-left-spec =
@@ -74,10 +79,10 @@ clip-left-spec =
     add-c
     mul-c
     slice-read-c
-    sub-put
-    add-put
-    sub-put-2
-    sub-put-3
-    put-requires
+    sub-t13
+    add-t17
+    sub-t18
+    sub-t19
+    put-slot-requires
     same-length
     returns-3)

@@ -1,6 +1,5 @@
--- The right part put in, then the left part clipped.
-use Rattle.map.specs.Clip.{split-holds, split-set}
 use native.Mathlib.Omega.{arith}
+use Rattle.map.specs.Clip.{split-set}
 use borrow.Author.Needs.{needs}
 use Rattle.cutting.proofs.split.Statement.{statement}
 use Rattle.cutting.proofs.split.Tie as tie
@@ -50,17 +49,11 @@ sub-insert-3 c = search needs
 insert-requires : tie.Need-insert-requires
 insert-requires c κs = search needs
 
-add-put : tie.Need-add-put
-add-put c = search needs
+sub-t13 : tie.Need-sub-t13
+sub-t13 c = search needs
 
-sub-put : tie.Need-sub-put
-sub-put c = search needs
-
-put-requires : tie.Need-put-requires
-put-requires c κs =
-    let s = c .before .before .before .before .before .before .before .before .before in
-    let a = s .args in
-    (split-holds (a .ext .now) (a .used) (s .pre .0) (a .l) (a .e) (a .i) (omega arith) (omega arith) (omega arith) (omega arith) (omega arith) _ (c .before .before .before .insert .ensures), omega arith)
+put-slot-requires : tie.Need-put-slot-requires
+put-slot-requires c κs = search needs
 
 same-length : tie.Need-same-length
 same-length c = search needs
@@ -69,7 +62,8 @@ returns : tie.Need-returns
 returns c =
     let s = c .before .before .before .before .before .before .before .before .before .before .before .before in
     let a = s .args in
-    split-set (a .ext .now) (a .used) (s .pre .0) (a .l) (a .e) (a .i) (omega arith) (omega arith) (omega arith) (omega arith) (omega arith) _ (c .before .before .before .before .before .before .insert .ensures) _ (c .before .before .put .ensures)
+    split-set (a .ext .now) (a .used) (s .pre .0) (a .l) (a .e) (a .i) (omega arith) (omega arith) (omega arith) (omega arith) (omega arith) _
+    (c .before .before .before .before .before .before .insert .ensures) _ (c .before .before .put-slot .ensures)
 
 pub split-spec : {M : Type 1} → statement M
 split-spec =
@@ -90,8 +84,7 @@ split-spec =
     sub-insert-2
     sub-insert-3
     insert-requires
-    add-put
-    sub-put
-    put-requires
+    sub-t13
+    put-slot-requires
     same-length
     returns)

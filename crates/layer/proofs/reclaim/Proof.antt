@@ -6,7 +6,7 @@ use Rattle.rules.specs.Reclaim.{victim}
 use Rattle.rules.specs.Calls.{Call, refused}
 use Rattle.laws.specs.Sane.{Shaped, Sane}
 use Rattle.verdicts.specs.Refusals.{lent-refuses}
-use Rattle.reclaimable.specs.Reclaiming.{sane-records, found-victim}
+use Rattle.verdicts.specs.Reclaiming.{sane-records, found-victim}
 use Rattle.accepted.specs.Accepts.{reclaim-room, ready-state, ready, refuses}
 use Rattle.layer.proofs.reclaim.Statement.{statement}
 use Rattle.layer.proofs.reclaim.Tie as tie

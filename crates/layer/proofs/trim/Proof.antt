@@ -98,6 +98,9 @@ cut-range-requires c κs =
     let z = accepted w (c .before .before .enum-told2 .given .1) in
     (trim-cut (s .args .number) (s .args .l) (s .args .n) (state s) z, w .before .before .before .around .ensures)
 
+kept-requires : tie.Need-kept-requires
+kept-requires c κs = search needs
+
 same-length-5 : tie.Need-same-length-5
 same-length-5 c = search needs
 
@@ -106,13 +109,14 @@ same-length-6 c = search needs
 
 returns-3 : tie.Need-returns-3
 returns-3 c =
-    let w = c .before .before .before .before .before .before .before .before .before in
+    let e = c .before in
+    let w = e .before .before .before .before .before .before .before .before .before in
     let s = start (w .before .before .before .before .before .before) in
     let a = s .args in
-    let z = accepted w (c .before .before .before .before .before .before .before .enum-told2 .given .1) in
+    let z = accepted w (e .before .before .before .before .before .before .before .enum-told2 .given .1) in
     accepts (asks s) (state s) z [] [] _
     (trim-counts (a .number) (a .l) (a .n) (state s) z)
-    (trim-leaves (a .number) (a .l) (a .n) (state s) z _ _ _ (c .before .before .before .before .cut-range .ensures))
+    (trim-leaves (a .number) (a .l) (a .n) (state s) z _ _ _ _ (e .before .before .before .before .cut-range .ensures) (c .kept .ensures))
     (trim-lists (a .number) (a .l) (a .n) (state s) z)
 
 pub trim-spec : {M : Type 1} → statement M
@@ -134,6 +138,7 @@ trim-spec =
     returns-2
     enum-told-2
     cut-range-requires
+    kept-requires
     same-length-5
     same-length-6
     returns-3)

@@ -45,8 +45,8 @@ raise-requires c κs =
     let h = c .before .before .before .before .before .before .before .before .before .before .before .pre .below (omega arith) in
     (omega arith, omega arith, omega arith)
 
-list-requires : tie.Need-list-requires
-list-requires c κs = c .before .before .before .before .before .before .before .before .before .before .before .before .before .before .before .pre .slot (omega arith)
+put-slot-requires : tie.Need-put-slot-requires
+put-slot-requires c κs = omega (arith, c .before .before .before .before .before .before .before .before .before .before .before .before .before .before .before .pre .slot (omega arith))
 
 add-result : tie.Need-add-result
 add-result c = search needs
@@ -62,11 +62,14 @@ same-length-3 c = search needs
 
 returns-2 : tie.Need-returns-2
 returns-2 c =
-    let v = c .before .before .before .before .before .before .before .before .before .before .before .before .before .before .before .before .before .before .args in
-    let pre = c .before .before .before .before .before .before .before .before .before .before .before .before .before .before .before .before .before .before .pre in
-    placed-some (v .blk .now) (v .spare .now) (v .out .now) (c .before .before .before .before .before .before .raise .last .0) (c .before .before .before .before .before .before .before .before .before .before .fill-rise .last .0) (c .before .before .list .last .0)
-    (v .b) (v .n) (v .l) (v .m) (v .k) (c .before .before .before .before .before .before .before .before .before .before .before .before .fill-of .result) (c .before .before .before .before .before .before .before .before .before .before .before .before .fill-of .ensures) (omega arith) (omega (arith, pre .below (omega arith)))
-    (c .before .before .before .before .before .before .before .before .before .before .fill-rise .ensures) (c .before .before .before .before .before .before .raise .ensures) (c .before .before .list .ensures)
+    let raised = c .before .before .before .before .before .before in
+    let labelled = raised .before .before .before .before in
+    let found = labelled .before .before in
+    let s = found .before .before .before .before .before .before in
+    let v = s .args in
+    placed-some (v .blk .now) (v .spare .now) (v .out .now) (raised .raise .last .0) (labelled .fill-rise .last .0) (c .before .before .put-slot .last .0)
+    (v .b) (v .n) (v .l) (v .m) (v .k) (found .fill-of .result) (found .fill-of .ensures) (omega arith) (omega (arith, s .pre .below (omega arith)))
+    (labelled .fill-rise .ensures) (raised .raise .ensures) (c .before .before .put-slot .ensures)
 
 pub place-in-spec : {M : Type 1} → statement M
 place-in-spec =
@@ -85,7 +88,7 @@ place-in-spec =
     part-fill-rise-end
     fill-rise-requires
     raise-requires
-    list-requires
+    put-slot-requires
     add-result
     same-length
     same-length-2

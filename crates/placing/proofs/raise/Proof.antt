@@ -1,45 +1,34 @@
-use Rattle.targets.specs.Blocks.{raised-by}
+use mathlib.Core.Path.{ap, _∙_}
+use native.Mathlib.Omega.{arith}
+use Rattle.rules.specs.Blocks.{putBlock}
+use Rattle.rules.specs.declared.BlockRecord.{BlockRecord}
+use Rattle.placing.specs.Blocks.{more, raised}
 use borrow.Author.Needs.{needs}
 use Rattle.placing.proofs.raise.Statement.{statement}
 use Rattle.placing.proofs.raise.Tie as tie
 
-fill-of-requires : tie.Need-fill-of-requires
-fill-of-requires c κs = search needs
+block-at-requires : tie.Need-block-at-requires
+block-at-requires c κs = search needs
 
-valid-of-requires : tie.Need-valid-of-requires
-valid-of-requires c κs = search needs
+add-more : tie.Need-add-more
+add-more c = omega (arith, ap (λ (r : BlockRecord). r .fill) (c .before .block-at .ensures))
 
-add-put-fill : tie.Need-add-put-fill
-add-put-fill c = search needs
+add-more-2 : tie.Need-add-more-2
+add-more-2 c = omega (arith, ap (λ (r : BlockRecord). r .valid) (c .before .before .block-at .ensures))
 
-put-fill-requires : tie.Need-put-fill-requires
-put-fill-requires c κs = search needs
-
-add-put-valid : tie.Need-add-put-valid
-add-put-valid c = search needs
-
-put-valid-requires : tie.Need-put-valid-requires
-put-valid-requires c κs = search needs
+put-block-requires : tie.Need-put-block-requires
+put-block-requires c κs = search needs
 
 same-length : tie.Need-same-length
 same-length c = search needs
 
 returns : tie.Need-returns
+unfolding raised
 returns c =
-    let v = c .before .before .before .before .before .before .before .before .before .before .before .before .before .args in
-    raised-by (v .m) (v .b) (v .blk .now) (c .before .before .before .before .before .before .put-fill .last .0) (c .before .before .put-valid .last .0)
-    (c .before .before .before .before .before .before .before .before .before .before .fill-of .result) (c .before .before .before .before .before .before .before .before .valid-of .result) (c .before .before .before .before .before .before .before .before .before .before .fill-of .ensures) (c .before .before .before .before .before .before .before .before .valid-of .ensures)
-    (c .before .before .before .before .before .before .put-fill .ensures) (c .before .before .put-valid .ensures)
+    let a = c .before .before .before .before .before .before .before .before .before .args in
+    c .before .before .put-block .ensures ∙ ap (λ (r : BlockRecord). putBlock (a .blk .now) (a .b) (more (a .m) r)) (c .before .before .before .before .before .before .block-at .ensures)
 
 pub raise-spec : {M : Type 1} → statement M
 raise-spec =
     tie.close
-    (tie.spec
-    fill-of-requires
-    valid-of-requires
-    add-put-fill
-    put-fill-requires
-    add-put-valid
-    put-valid-requires
-    same-length
-    returns)
+    (tie.spec block-at-requires add-more add-more-2 put-block-requires same-length returns)

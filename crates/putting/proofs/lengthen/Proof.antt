@@ -1,6 +1,5 @@
--- One slot stored.
-use Rattle.putting.specs.Pieces.{lengthened-set}
 use native.Mathlib.Omega.{arith}
+use Rattle.putting.specs.Pieces.{lengthened-set}
 use borrow.Author.Needs.{needs}
 use Rattle.putting.proofs.lengthen.Statement.{statement}
 use Rattle.putting.proofs.lengthen.Tie as tie
@@ -35,17 +34,20 @@ mul-d c = search needs
 slice-read-d : tie.Need-slice-read-d
 slice-read-d c = search needs
 
-add-put : tie.Need-add-put
-add-put c = search needs
+add-t13 : tie.Need-add-t13
+add-t13 c = search needs
 
-put-requires : tie.Need-put-requires
-put-requires c κs = search needs
+put-slot-requires : tie.Need-put-slot-requires
+put-slot-requires c κs = search needs
 
 same-length : tie.Need-same-length
 same-length c = search needs
 
 returns : tie.Need-returns
-returns c = lengthened-set (c .before .before .before .before .before .before .before .before .args .ext .now) (c .before .before .before .before .before .before .before .before .args .used) (c .before .before .before .before .before .before .before .before .args .i) (c .before .before .before .before .before .before .before .before .args .c) _ (omega arith) (omega arith) (c .before .before .put .ensures)
+returns c =
+    let s = c .before .before .before .before .before .before .before .before in
+    let a = s .args in
+    lengthened-set (a .ext .now) (a .used) (a .i) (a .c) _ (s .pre .0) (omega arith) (omega arith) (c .before .before .put-slot .ensures)
 
 pub lengthen-spec : {M : Type 1} → statement M
 lengthen-spec =
@@ -61,7 +63,7 @@ lengthen-spec =
     add-d
     mul-d
     slice-read-d
-    add-put
-    put-requires
+    add-t13
+    put-slot-requires
     same-length
     returns)

@@ -1,14 +1,16 @@
 use mathlib.Core.Path.{sym, ap, _∙_}
+use native.Mathlib.Omega.{arith}
 use Rattle.rules.specs.Extents.{joinable}
 use Rattle.rules.specs.declared.Extent.{Extent}
 use Rattle.reclaiming.specs.Slot.{joins-none, joins-some}
 use borrow.Author.Needs.{needs}
-use native.Mathlib.Omega.{arith}
 use Rattle.reclaiming.proofs.joins_last.Statement.{statement}
 use Rattle.reclaiming.proofs.joins_last.Tie as tie
 
 returns : tie.Need-returns
-returns c = joins-none (c .before .before .args .n) (c .before .before .args .ext .now) (c .before .before .args .w) (c .before .before .args .x) (omega arith)
+returns c =
+    let a = c .before .before .args in
+    joins-none (a .n) (a .ext .now) (a .w) (a .x) (omega arith)
 
 sub-slot-at : tie.Need-sub-slot-at
 sub-slot-at c = search needs
@@ -20,8 +22,10 @@ joins-requires : tie.Need-joins-requires
 joins-requires c κs = search needs
 
 returns-2 : tie.Need-returns-2
-returns-2 c = c .joins .ensures ∙ ap (λ (e : Extent). joinable (c .before .before .before .before .args .n) e (c .before .before .before .before .args .x)) (c .before .slot-at .ensures)
-    ∙ sym (joins-some (c .before .before .before .before .args .n) (c .before .before .before .before .args .ext .now) (c .before .before .before .before .args .w) (c .before .before .before .before .args .x) (omega arith))
+returns-2 c =
+    let a = c .before .before .before .before .args in
+    c .joins .ensures ∙ ap (λ (e : Extent). joinable (a .n) e (a .x)) (c .before .slot-at .ensures) ∙ sym (joins-some (a .n) (a .ext .now) (a .w) (a .x) (omega arith))
 
 pub joins-last-spec : {M : Type 1} → statement M
-joins-last-spec = tie.close (tie.spec returns sub-slot-at slot-at-requires joins-requires returns-2)
+joins-last-spec =
+    tie.close (tie.spec returns sub-slot-at slot-at-requires joins-requires returns-2)

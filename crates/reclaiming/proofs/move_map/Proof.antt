@@ -7,7 +7,8 @@ use Rattle.rules.specs.declared.Extent.{Extent}
 use Rattle.laws.specs.Norm.{norm, move}
 use Rattle.choosing.specs.Covered.{covered}
 use Rattle.choosing.specs.Ranks.{ranks-movable}
-use Rattle.reclaiming.specs.Remapped.{laid, place}
+use Rattle.reclaiming.specs.Remapped.{place}
+use Rattle.map.specs.Padded.{padded}
 use Rattle.reclaiming.specs.Slot.{Packed, packed-start, packed-slot, packed-step, packed-length, packed-end, moved-map}
 use borrow.Author.Needs.{needs}
 use native.Mathlib.Omega.{arith}
@@ -89,8 +90,8 @@ returns c =
     let after : ℕ → List Extent = λ k. norm (v .n) (map (move (to s)) (slotsFrom (v .ext .now) 0 k)) in (
       packed-length (to s) (v .n) (v .ext .now) (l .ext) (l .i) (l .w) (l .inv .2) ∙ ap (λ (k : ℕ). length (after k)) e ∙ ap length all,
       packed-end (to s) (v .n) (v .ext .now) (l .ext) (filled .last .0) (l .i) (l .w) (omega arith) (omega arith) (l .inv .2) (filled .ensures)
-          ∙ ap (λ (k : ℕ). laid (after k) (length (v .ext .now))) e
-          ∙ ap (λ (es : List Extent). laid es (length (v .ext .now))) all,
+          ∙ ap (λ (k : ℕ). padded (length (v .ext .now)) (after k)) e
+          ∙ ap (padded (length (v .ext .now))) all,
     )
 
 pub move-map-spec : {M : Type 1} → statement M

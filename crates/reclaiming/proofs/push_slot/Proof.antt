@@ -1,14 +1,16 @@
 use mathlib.Core.Path.{sym, _∙_}
+use native.Mathlib.Omega.{arith}
 use lib.ListN.{length-set}
 use Rattle.reclaiming.specs.Slot.{Last, joins-last, pushed-joined, pushed-apart}
 use borrow.Author.Needs.{needs}
-use native.Mathlib.Omega.{arith}
 use Rattle.reclaiming.proofs.push_slot.Statement.{statement}
 use Rattle.reclaiming.proofs.push_slot.Tie as tie
 
 -- the slot that it is joined with
-last : (c : tie.Then1) → Last (c .before .before .before .before .args .n) (c .before .before .before .before .args .ext .now) (c .before .before .before .before .args .w) (c .before .before .before .before .args .x)
-last c = joins-last (c .before .before .before .before .args .n) (c .before .before .before .before .args .ext .now) (c .before .before .before .before .args .w) (c .before .before .before .before .args .x) (sym (c .before .joins-last .ensures) ∙ c .if1 .taken)
+last : (c : tie.Then1) → let a = c .before .before .before .before .args in Last (a .n) (a .ext .now) (a .w) (a .x)
+last c =
+    let a = c .before .before .before .before .args in
+    joins-last (a .n) (a .ext .now) (a .w) (a .x) (sym (c .before .joins-last .ensures) ∙ c .if1 .taken)
 
 joins-last-requires : tie.Need-joins-last-requires
 joins-last-requires c κs = search needs
@@ -38,7 +40,9 @@ same-length : tie.Need-same-length
 same-length c = simp length-set
 
 returns : tie.Need-returns
-returns c = pushed-joined (c .before .before .before .before .before .before .args .n) (c .before .before .before .before .before .before .args .ext .now) (c .before .before .before .before .before .before .args .w) (c .before .before .before .before .before .before .args .x) (omega arith) (sym (c .before .before .before .joins-last .ensures) ∙ c .before .before .if1 .taken)
+returns c =
+    let a = c .before .before .before .before .before .before .args in
+    pushed-joined (a .n) (a .ext .now) (a .w) (a .x) (omega arith) (sym (c .before .before .before .joins-last .ensures) ∙ c .before .before .if1 .taken)
 
 put-slot-requires : tie.Need-put-slot-requires
 put-slot-requires c κs = search needs
@@ -50,7 +54,9 @@ same-length-2 : tie.Need-same-length-2
 same-length-2 c = search needs
 
 returns-2 : tie.Need-returns-2
-returns-2 c = pushed-apart (c .before .before .before .before .before .before .before .before .args .n) (c .before .before .before .before .before .before .before .before .args .ext .now) (c .before .before .put-slot .last .0) (c .before .before .before .before .before .before .before .before .args .w) (c .before .before .before .before .before .before .before .before .args .x) (omega arith)
+returns-2 c =
+    let a = c .before .before .before .before .before .before .before .before .args in
+    pushed-apart (a .n) (a .ext .now) (c .before .before .put-slot .last .0) (a .w) (a .x) (omega arith)
     (sym (c .before .before .before .before .before .joins-last .ensures) ∙ c .before .before .before .before .if1 .left) (c .before .before .put-slot .ensures)
 
 pub push-slot-spec : {M : Type 1} → statement M

@@ -9,7 +9,7 @@ use Rattle.rules.specs.Lent.{Lent, lent}
 use Rattle.rules.specs.Device.{free, deviceOf}
 use Rattle.rules.specs.Answers.{refuse}
 use Rattle.rules.specs.declared.Refusal.{Refusal}
-use Rattle.counts.specs.Totals.{sane-filled, device-free}
+use Rattle.blocks.specs.Totals.{sane-filled, device-free}
 use Rattle.verdicts.specs.Numbered.{Asked}
 use Rattle.writable.specs.Meeting.{pieces-are, grows, few-meet, nodes-are}
 use Rattle.writable.specs.Writing.{outOrLong, is-out-or-long, write-asked, write-pages, writable, write-last}

@@ -1,0 +1,118 @@
+-- The way over the blocks: the pieces that the blocks from b on give.
+use Prim.Native.Nat.{ℕ, zero, suc, _+_, _-_, _*_, _≤_, _<_}
+use mathlib.Core.Path.{_≡_, refl, sym, ap, _∙_}
+use mathlib.Core.List.{List, [], _∷_}
+use native.Mathlib.Omega.{arith}
+use native.Mathlib.Nat.{mul-le-mul}
+use lib.ListN.{length}
+use Rattle.rules.specs.Counting.{tabulate}
+use Rattle.rules.specs.Extents.{extent}
+use Rattle.rules.specs.Blocks.{fillWord}
+use Rattle.rules.specs.declared.Extent.{Extent}
+use Rattle.laws.specs.Cells.{block-le}
+use Rattle.laws.specs.Spread.{taken, listed, spread, firstPage, spread-skip, spread-some, spread-length, taken-none, taken-some, tabulate-each}
+use Rattle.placing.specs.Bare.{fillsOf}
+use Rattle.placing.specs.Blocks.{fillsFrom}
+
+fills-each : (k b : ℕ) (blk : List ℕ) → fillsFrom k b blk ≡ tabulate k (λ i. fillWord blk (b + i))
+unfolding fillsFrom tabulate
+fills-each zero b blk = refl
+fills-each (suc k) b blk =
+    let z : b + 0 ≡ b = omega arith in
+    ap (λ (x : ℕ). fillWord blk x ∷ fillsFrom k (b + 1) blk) (sym z)
+    ∙ ap (λ (r : List ℕ). fillWord blk (b + 0) ∷ r) (fills-each k (b + 1) blk
+    ∙ tabulate-each k (λ i. fillWord blk (b + 1 + i)) (λ i. fillWord blk (b + suc i)) (λ i. let e : b + 1 + i ≡ b + suc i = omega arith in ap (fillWord blk) e))
+
+pub fills-all : (k : ℕ) (blk : List ℕ) → fillsFrom k 0 blk ≡ fillsOf k blk
+fills-all k blk =
+    fills-each k 0 blk ∙ tabulate-each k (λ i. fillWord blk (0 + i)) (fillWord blk) (λ i. let e : 0 + i ≡ i = omega arith in ap (fillWord blk) e)
+
+-- a page's number is small
+pub page-small : (blocks n b f : ℕ) → b < blocks → blocks ≤ 1024 → n ≤ 256 → f ≤ n → b * n + f ≤ 262144
+page-small blocks n b f h s t g = omega (arith, block-le n b blocks h, mul-le-mul {n₁ = blocks} {m₁ = n} {n₂ = 1024} {m₂ = 256} s t)
+
+module _ (n reserve blocks : ℕ) (blk : List ℕ) where
+  unfoldable pub rest : ℕ → ℕ → ℕ → List Extent
+  rest b l want = spread n reserve (fillsFrom (blocks - b) b blk) b l want
+
+  -- what block b takes
+  abbrev pub takes : ℕ → ℕ → ℕ
+  takes b want = taken n reserve b (fillWord blk b) want
+
+  pub rest-start : (l want : ℕ) → rest 0 l want ≡ spread n reserve (fillsOf blocks blk) 0 l want
+  unfolding rest
+  rest-start l want =
+      let z : blocks - 0 ≡ blocks = omega arith in
+      ap (λ (fs : List ℕ). spread n reserve fs 0 l want) (ap (λ (k : ℕ). fillsFrom k 0 blk) z ∙ fills-all blocks blk)
+
+  pub rest-end : (b l want : ℕ) → blocks ≤ b → rest b l want ≡ []
+  unfolding rest fillsFrom spread
+  rest-end b l want h = let z : blocks - b ≡ 0 = omega arith in rw z
+
+  module _ (b l want : ℕ) (h : b < blocks) where
+    fills-next : fillsFrom (blocks - b) b blk ≡ fillWord blk b ∷ fillsFrom (blocks - (b + 1)) (b + 1) blk
+    unfolding fillsFrom
+    fills-next = let z : blocks - b ≡ suc (blocks - (b + 1)) = omega arith in ap (λ (k : ℕ). fillsFrom k b blk) z
+
+    pub rest-skip : takes b want ≡ 0 → rest b l want ≡ rest (b + 1) l want
+    unfolding rest
+    rest-skip e =
+        ap (λ (fs : List ℕ). spread n reserve fs b l want) fills-next
+        ∙ spread-skip n reserve (fillWord blk b) (fillsFrom (blocks - (b + 1)) (b + 1) blk) b l want e
+
+    pub rest-some : 0 < takes b want → rest b l want ≡ extent l (b * n + fillWord blk b) (takes b want) ∷ rest (b + 1) (l + takes b want) (want - takes b want)
+    unfolding rest
+    rest-some e =
+        ap (λ (fs : List ℕ). spread n reserve fs b l want) fills-next
+        ∙ spread-some n reserve (fillWord blk b) (fillsFrom (blocks - (b + 1)) (b + 1) blk) b l want e
+
+    pub rest-next : rest b l want ≡ listed (extent l (b * n + fillWord blk b) (takes b want)) (rest (b + 1) (l + takes b want) (want - takes b want))
+    unfolding rest spread
+    rest-next = ap (λ (fs : List ℕ). spread n reserve fs b l want) fills-next
+
+  -- ---- counted
+
+  abbrev pub howMany : ℕ → ℕ → ℕ
+  howMany b want = length (rest b 0 want)
+
+  pub many-start : (l want : ℕ) → howMany 0 want ≡ length (spread n reserve (fillsOf blocks blk) 0 l want)
+  many-start l want = ap length (rest-start 0 want) ∙ spread-length n reserve (fillsOf blocks blk) 0 0 l want
+
+  pub many-end : (b want : ℕ) → blocks ≤ b → howMany b want ≡ 0
+  many-end b want h = ap length (rest-end b 0 want h)
+
+  module _ (b want m : ℕ) (h : b < blocks) (t : m ≡ takes b want) where
+    pub many-skip : m ≤ 0 → howMany b want ≡ howMany (b + 1) (want - m)
+    many-skip e =
+        let z : want ≡ want - m = omega arith in
+        ap length (rest-skip b 0 want h (omega arith)) ∙ ap (howMany (b + 1)) z
+
+    pub many-some : 0 < m → howMany b want ≡ 1 + howMany (b + 1) (want - m)
+    unfolding rest
+    many-some e =
+        let k = takes b want in
+        omega (
+          arith,
+          ap length (rest-some b 0 want h (omega arith)),
+          spread-length n reserve (fillsFrom (blocks - (b + 1)) (b + 1) blk) (b + 1) (0 + k) 0 (want - k),
+          ap (λ (x : ℕ). howMany (b + 1) (want - x)) t,
+        )
+
+  -- ---- the first
+
+  -- nothing before block b is a piece's
+  abbrev pub Passed : ℕ → Type 0
+  Passed b = (l want : ℕ) → 0 < want → firstPage (rest 0 l want) ≡ firstPage (rest b l want)
+
+  pub passed-next : (b : ℕ) → b < blocks → Passed b → takes b 1 ≡ 0 → Passed (b + 1)
+  passed-next b h p e l want s =
+      p l want s ∙ ap firstPage (rest-skip b l want h (taken-none n reserve b (fillWord blk b) want e))
+
+  pub passed-end : (b : ℕ) → blocks ≤ b → Passed b → (l want : ℕ) → 0 < want → 0 ≡ firstPage (spread n reserve (fillsOf blocks blk) 0 l want)
+  unfolding firstPage
+  passed-end b h p l want s = sym (sym (ap firstPage (rest-start l want)) ∙ p l want s ∙ ap firstPage (rest-end b l want h))
+
+  pub passed-found : (b : ℕ) → b < blocks → Passed b → 0 < takes b 1 → (l want : ℕ) → 0 < want → b * n + fillWord blk b ≡ firstPage (spread n reserve (fillsOf blocks blk) 0 l want)
+  unfolding firstPage
+  passed-found b h p e l want s =
+      sym (sym (ap firstPage (rest-start l want)) ∙ p l want s ∙ ap firstPage (rest-some b l want h (taken-some n reserve b (fillWord blk b) want e s)))
