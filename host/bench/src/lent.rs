@@ -3,7 +3,7 @@
 use std::time::Instant;
 
 use compare::to_library;
-use plain::{generate, Head, Layer, Plain, Words};
+use second::{generate, Head, Layer, Second, Words};
 use utasiro::ffi;
 
 /// M of every state, so that few extents and many are in the same words.
@@ -61,18 +61,18 @@ impl Lent {
         *valid += 1;
     }
 
-    /// A call of plain; its refusal.
-    pub fn plain(&mut self, call: Call) -> u32 {
+    /// A call of the second implementation; its refusal.
+    pub fn second(&mut self, call: Call) -> u32 {
         let (head, (start, count)) = (self.head, self.range);
         let Lent { words, answer, .. } = self;
         match call {
-            Call::Report => Plain.report(head, words).refusal,
-            Call::Read | Call::ReadRecords => Plain.read(head, words, start, count, answer).refusal,
-            Call::ReadAll => Plain.read(head, words, 0, head.logical, answer).refusal,
-            Call::Write => Plain.write(head, words, head.last + 1, start, count, answer).refusal,
-            Call::Trim => Plain.trim(head, words, head.last + 1, start, count).refusal,
-            Call::Reclaim => Plain.reclaim(head, words, answer).refusal,
-            Call::Fresh => Plain.fresh(head.blocks, head.pages, head.logical, head.slots, words).refusal,
+            Call::Report => Second.report(head, words).refusal,
+            Call::Read | Call::ReadRecords => Second.read(head, words, start, count, answer).refusal,
+            Call::ReadAll => Second.read(head, words, 0, head.logical, answer).refusal,
+            Call::Write => Second.write(head, words, head.last + 1, start, count, answer).refusal,
+            Call::Trim => Second.trim(head, words, head.last + 1, start, count).refusal,
+            Call::Reclaim => Second.reclaim(head, words, answer).refusal,
+            Call::Fresh => Second.fresh(head.blocks, head.pages, head.logical, head.slots, words).refusal,
         }
     }
 

@@ -1,7 +1,7 @@
 //! The test of a sound state in plain Rust, rules 1 to 6 directly over the words,
 //! as tight as it gets without `unsafe`; and one pass over the same words.
 
-use plain::{Head, Words, ERASED};
+use second::{Head, Words, ERASED};
 
 /// One vectorised pass over all that is lent: the least that any call must do.
 pub fn pass(words: &Words) -> u32 {
@@ -74,14 +74,14 @@ fn extents_fit(head: Head, in_use: &[u32], words: &Words, mapped: &mut [u32; 102
 #[cfg(test)]
 mod tests {
     use super::sound;
-    use plain::generate;
-    use plain::host::Host;
-    use plain::random::Random;
-    use plain::requests::Buffer;
-    use plain::{Head, Layer, Plain, Words};
+    use second::generate;
+    use second::host::Host;
+    use second::random::Random;
+    use second::requests::Buffer;
+    use second::{Head, Layer, Second, Words};
 
     fn agrees(head: Head, words: &Words) -> bool {
-        let refused = Plain.report(head, words).refusal == 2;
+        let refused = Second.report(head, words).refusal == 2;
         assert_eq!(sound(head, words), !refused, "{head:?} {words:?}");
         !refused
     }
@@ -104,13 +104,13 @@ mod tests {
         (head, words)
     }
 
-    /// The test says what plain says, of sound states and damaged ones.
+    /// The test says what the second implementation says, of sound states and damaged ones.
     #[test]
-    fn the_direct_test_agrees_with_plain() {
+    fn the_direct_test_agrees_with_the_second_implementation() {
         let mut random = Random::new(41);
         let (mut sound_ones, mut others) = (0, 0);
         for _ in 0..300 {
-            let mut host = Host::replay(Plain, &[generate::sizes(&mut random, 6, 6)], true).expect("fresh");
+            let mut host = Host::replay(Second, &[generate::sizes(&mut random, 6, 6)], true).expect("fresh");
             for _ in 0..40 {
                 for request in generate::call(&mut random, host.head()) {
                     host.run(request).expect("a history");

@@ -1,7 +1,7 @@
 //! Layers with a fault each, to try the checks themselves: a layer that does as it
 //! should, with what goes into a call or comes out of it changed.
 
-use plain::{Counts, Head, Layer, Outcome, Refusal, Words, ERASED, HOLE};
+use second::{Counts, Head, Layer, Outcome, Refusal, Words, ERASED, HOLE};
 
 /// What is wrong with a layer, by the call that it is in.
 #[derive(Clone, Copy, Debug, PartialEq, Eq)]

@@ -5,7 +5,7 @@
 use std::fmt;
 
 use compare::{random, times};
-use plain::random::Random;
+use second::random::Random;
 use utasiro::{Board, Failure, Refusal, Saved, Sizes, Store};
 
 /// A page of flash.

@@ -2,7 +2,7 @@
 
 use compare::checks::damaged;
 use compare::Lent;
-use plain::shrink::Tried;
+use second::shrink::Tried;
 
 #[test]
 fn every_word_and_field_of_small_states() -> Tried {

@@ -1,12 +1,12 @@
 //! Damaged states: words of sound states changed, each head field changed, each length
-//! one off. The answers must be plain's, and so must the words where what was changed
-//! is sound after all.
+//! one off. The answers must be those of the second implementation, and so must the
+//! words where what was changed is sound after all.
 
-use plain::generate;
-use plain::random::Random;
-use plain::requests::{to_reach, Buffer, Field, Request};
-use plain::shrink::{shown, Checked, Failure, Tried};
-use plain::{Head, Layer, Words, ERASED};
+use second::generate;
+use second::random::Random;
+use second::requests::{to_reach, Buffer, Field, Request};
+use second::shrink::{shown, Checked, Failure, Tried};
+use second::{Head, Layer, Words, ERASED};
 
 use crate::pair::{one_off, states};
 use crate::{random, times, History, Pair};
@@ -139,7 +139,7 @@ fn refused_1(request: Request, refusal: u32) -> Checked {
 }
 
 /// Every call after a history, with a buffer lent that is a word shorter or longer:
-/// refused 1, as plain does.
+/// refused 1, as the second implementation does.
 fn calls_one_off<L: Layer + Clone>(mut pair: Pair<L>, buffer: Buffer, longer: bool) -> Checked {
     pair.lend_one_off(buffer, longer);
     let head = pair.head();

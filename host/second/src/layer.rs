@@ -5,9 +5,9 @@ use crate::device::Device;
 use crate::sound::{device_of, lengths_fit, sizes_fit};
 use crate::{Counts, Extent, Head, Layer, Outcome, Refusal, Words};
 
-/// The plain layer.
+/// The second implementation.
 #[derive(Clone, Copy, Debug, Default)]
-pub struct Plain;
+pub struct Second;
 
 /// Refusals 1 and 2, and the table of what passes them.
 fn lent_device(head: Head, words: &Words) -> Result<Device, Refusal> {
@@ -61,7 +61,7 @@ fn put_extents(extents: &[Extent], words: &mut [u32]) {
     }
 }
 
-impl Layer for Plain {
+impl Layer for Second {
     fn fresh(&self, blocks: u32, pages: u32, logical: u32, slots: u32, words: &mut Words) -> Outcome {
         if !sizes_fit(blocks, pages, logical, slots) || !lengths_fit(blocks, pages, slots, words) {
             return refused(Refusal::Shape, Head { blocks, pages, logical, slots, ..Head::default() });

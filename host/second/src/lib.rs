@@ -1,4 +1,4 @@
-//! The layer of document 01 written plainly, for comparing with the proved one.
+//! The second implementation of document 01, for comparing with the proved one.
 //!
 //! It is written from the paper alone and shares nothing with the proved
 //! definitions. It keeps one line per logical page (`device`), reads that table
@@ -9,15 +9,15 @@
 //! and the shortest history of a failure.
 //!
 //! ```
-//! use plain::{Layer, Plain, Words};
+//! use second::{Layer, Second, Words};
 //!
 //! let mut words = Words::of_sizes(4, 16, 16);
-//! let head = Plain.fresh(4, 16, 32, 16, &mut words).head;
+//! let head = Second.fresh(4, 16, 32, 16, &mut words).head;
 //! let mut answer = [0; 3];
-//! let first = Plain.write(head, &mut words, 1, 0, 2, &mut answer);
+//! let first = Second.write(head, &mut words, 1, 0, 2, &mut answer);
 //! assert_eq!((first.refusal, first.count, answer), (0, 1, [0, 0, 2]));
-//! let again = Plain.write(first.head, &mut words, 1, 0, 2, &mut answer);
-//! assert_eq!(again.refusal, plain::Refusal::Applied.number());
+//! let again = Second.write(first.head, &mut words, 1, 0, 2, &mut answer);
+//! assert_eq!(again.refusal, second::Refusal::Applied.number());
 //! ```
 
 pub mod device;
@@ -30,7 +30,7 @@ pub mod requests;
 pub mod shrink;
 mod sound;
 
-pub use layer::{words_of, Plain};
+pub use layer::{words_of, Second};
 
 /// The word of an erased spare entry.
 pub const ERASED: u32 = 4_294_967_295;
