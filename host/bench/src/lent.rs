@@ -3,7 +3,7 @@
 use std::time::Instant;
 
 use compare::to_library;
-use second::{generate, Head, Layer, Second, Words};
+use second::{generate, Block, Head, Layer, Second, Words};
 use utasiro::ffi;
 
 /// M of every state, so that few extents and many are in the same words.
@@ -57,8 +57,9 @@ impl Lent {
     /// Makes the last block's valid count wrong, which is the last thing that a test of the
     /// state comes to: a call is then refused 2 after the whole test and does nothing else.
     pub fn spoil(&mut self) {
-        let valid = self.words.blocks.last_mut().expect("a device has blocks");
-        *valid += 1;
+        let last = self.head.blocks - 1;
+        let record = self.words.block(last);
+        self.words.put_block(last, Block { valid: record.valid + 1, ..record });
     }
 
     /// A call of the second implementation; its refusal.

@@ -3,7 +3,7 @@
 
 use crate::device::Device;
 use crate::sound::{device_of, lengths_fit, sizes_fit};
-use crate::{Counts, Extent, Head, Layer, Outcome, Refusal, Words};
+use crate::{Block, Counts, Extent, Head, Layer, Outcome, Refusal, Words};
 
 /// The second implementation.
 #[derive(Clone, Copy, Debug, Default)]
@@ -39,9 +39,8 @@ fn put(device: &Device, words: &mut Words) -> Head {
     let extents = device.extents();
     put_extents(&extents, &mut words.extents);
     words.extents[3 * extents.len()..].fill(0);
-    for (block, (&fill, valid)) in device.fills.iter().zip(device.valid()).enumerate() {
-        words.blocks[2 * block] = fill;
-        words.blocks[2 * block + 1] = valid;
+    for (block, (&fill, valid)) in (0..).zip(device.fills.iter().zip(device.valid())) {
+        words.put_block(block, Block { fill, valid });
     }
     words.spare.copy_from_slice(&device.spare);
     Head {

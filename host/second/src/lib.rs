@@ -20,6 +20,7 @@
 //! assert_eq!(again.refusal, second::Refusal::Applied.number());
 //! ```
 
+mod block;
 pub mod device;
 pub mod flash;
 pub mod generate;
@@ -30,6 +31,7 @@ pub mod requests;
 pub mod shrink;
 mod sound;
 
+pub use block::Block;
 pub use layer::{words_of, Second};
 
 /// The word of an erased spare entry.
@@ -63,7 +65,7 @@ pub struct Head {
 pub struct Words {
     /// 3M words: logical start, physical start, page count of each slot.
     pub extents: Vec<u32>,
-    /// 2B words: fill, valid of each block.
+    /// A [`Block`] record for each block.
     pub blocks: Vec<u32>,
     /// B x N words: the label of each physical page.
     pub spare: Vec<u32>,
@@ -75,7 +77,7 @@ impl Words {
     pub fn of_sizes(blocks: u32, pages: u32, slots: u32) -> Words {
         Words {
             extents: vec![0; 3 * slots as usize],
-            blocks: vec![0; 2 * blocks as usize],
+            blocks: vec![0; Block::WORDS * blocks as usize],
             spare: vec![0; blocks as usize * pages as usize],
         }
     }
