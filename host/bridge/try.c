@@ -71,6 +71,15 @@ static void is_read(const device *d, uint32_t page) {
     expect(answer[0] == page && answer[1] == d->at[page] && answer[2] == 1, "a read finds the page where it was written");
 }
 
+static void is_recorded(const device *d) {
+    uint32_t programmed = 0, mapped = 0;
+    for (uint32_t block = 0; block < BLOCKS; block++) {
+        programmed += UTASIRO_FILL(d->blocks, block);
+        mapped += UTASIRO_VALID(d->blocks, block);
+    }
+    expect(programmed == d->written && mapped == d->live, "the records of the blocks count right");
+}
+
 /* Writes a page, sends the write again, reads, and counts. */
 static void step(device *d, uint32_t page) {
     if (d->written == WRITABLE)
@@ -90,6 +99,7 @@ static void step(device *d, uint32_t page) {
     utasiro_counts c = utasiro_report(d->head, STATE);
     expect(c.refusal == UTASIRO_ACCEPTED && c.free == WRITABLE - d->written && c.live == d->live && c.stale == d->written - d->live,
            "a report counts right");
+    is_recorded(d);
 }
 
 /* A device in which pages are written `stride` apart. */
