@@ -81,9 +81,9 @@
  *   Each step begins when the one before it is durable. To save is to put a state in the place
  *   of the last one such that a crash leaves the one or the other, whole.
  *   A host that goes on after a crash takes the state that was saved last and, before any other
- *   call, sees to it that the flash is erased from each block's fill on: it erases the reserve
- *   block, and clears each block with a page programmed at or past its fill. No call does that
- *   for it: docs/CRASHES.md says how, what each crash leaves, and what is proved of it.
+ *   call, sees to it that the flash is erased from each block's fill (UTASIRO_FILL) on: it erases
+ *   the reserve block, and clears each block with a page programmed at or past its fill. No call
+ *   does that for it: docs/CRASHES.md says how, what each crash leaves, and what is proved of it.
  *   Then every acknowledged request is there, one that was not has happened as a whole or not at
  *   all, and may be sent again: if it has happened, it is refused 4.
  */
@@ -112,6 +112,10 @@ extern "C" {
 #define UTASIRO_EXTENT_WORDS(slots) ((size_t)3 * (slots))
 #define UTASIRO_BLOCK_WORDS(blocks) ((size_t)2 * (blocks))
 #define UTASIRO_SPARE_WORDS(blocks, pages) ((size_t)(blocks) * (pages))
+
+/* The fill and the valid count of a block, in the words of the blocks. */
+#define UTASIRO_FILL(words, block) ((words)[UTASIRO_BLOCK_WORDS(block)])
+#define UTASIRO_VALID(words, block) ((words)[UTASIRO_BLOCK_WORDS(block) + 1])
 
 /*
  * The words of the longest answers: to a write of count pages, to a read of count pages, to a read of any range with so

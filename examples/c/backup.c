@@ -12,7 +12,7 @@ enum { B = 4, N = 4, L = 8, M = 8, ERASED_PAGE = -1 };
 /* A state, the head and the words together: it is saved whole. */
 typedef struct {
     utasiro_head head;
-    uint32_t extents[3 * M], blocks[2 * B], spare[B * N];
+    uint32_t extents[UTASIRO_EXTENT_WORDS(M)], blocks[UTASIRO_BLOCK_WORDS(B)], spare[UTASIRO_SPARE_WORDS(B, N)];
 } state;
 
 /* What outlives a crash. */
@@ -101,7 +101,7 @@ static void take_up(void) {
         fail("what was saved is no state", counts.refusal);
     erase(now.head.reserve);
     for (uint32_t block = 0; block < B; block++) {
-        uint32_t fill = now.blocks[2 * block];
+        uint32_t fill = UTASIRO_FILL(now.blocks, block);
         if (fill < N && board.pages[block * N + fill] != ERASED_PAGE)
             fail("a block is programmed past its fill", 0);
     }

@@ -41,15 +41,18 @@ enum { BLOCKS = 4, PAGES = 16, LOGICAL = 32, SLOTS = 32, WRITABLE = (BLOCKS - 1)
 
 typedef struct {
     utasiro_head head;
-    uint32_t extents[3 * SLOTS], blocks[2 * BLOCKS], spare[BLOCKS * PAGES];
+    uint32_t extents[UTASIRO_EXTENT_WORDS(SLOTS)], blocks[UTASIRO_BLOCK_WORDS(BLOCKS)], spare[UTASIRO_SPARE_WORDS(BLOCKS, PAGES)];
     uint32_t written, live;
     /* Where each logical page is. */
     uint32_t at[LOGICAL];
 } device;
 
+/* The words of the device d, as they are lent. */
+#define STATE \
+    d->extents, UTASIRO_EXTENT_WORDS(SLOTS), d->blocks, UTASIRO_BLOCK_WORDS(BLOCKS), d->spare, UTASIRO_SPARE_WORDS(BLOCKS, PAGES)
+
 static void begin(device *d) {
-    utasiro_outcome o = utasiro_fresh(BLOCKS, PAGES, LOGICAL, SLOTS, d->extents, 3 * SLOTS, d->blocks, 2 * BLOCKS, d->spare,
-                                      BLOCKS * PAGES);
+    utasiro_outcome o = utasiro_fresh(BLOCKS, PAGES, LOGICAL, SLOTS, STATE);
     expect(o.refusal == UTASIRO_ACCEPTED && o.head.blocks == BLOCKS && o.head.used == 0, "a fresh device");
     d->head = o.head;
     d->written = d->live = 0;
@@ -58,15 +61,23 @@ static void begin(device *d) {
 }
 
 static utasiro_outcome write_page(device *d, uint64_t number, uint32_t page, uint32_t answer[3]) {
-    return utasiro_write(d->head, d->extents, 3 * SLOTS, d->blocks, 2 * BLOCKS, d->spare, BLOCKS * PAGES, number, page, 1, answer, 3);
+    return utasiro_write(d->head, STATE, number, page, 1, answer, 3);
 }
 
 static void is_read(const device *d, uint32_t page) {
     uint32_t answer[3];
-    utasiro_outcome o = utasiro_read(d->head, d->extents, 3 * SLOTS, d->blocks, 2 * BLOCKS, d->spare, BLOCKS * PAGES, page, 1,
-                                     answer, 3);
+    utasiro_outcome o = utasiro_read(d->head, STATE, page, 1, answer, 3);
     expect(o.refusal == UTASIRO_ACCEPTED && o.count == 1, "a read is accepted");
     expect(answer[0] == page && answer[1] == d->at[page] && answer[2] == 1, "a read finds the page where it was written");
+}
+
+static void is_recorded(const device *d) {
+    uint32_t programmed = 0, mapped = 0;
+    for (uint32_t block = 0; block < BLOCKS; block++) {
+        programmed += UTASIRO_FILL(d->blocks, block);
+        mapped += UTASIRO_VALID(d->blocks, block);
+    }
+    expect(programmed == d->written && mapped == d->live, "the records of the blocks count right");
 }
 
 /* Writes a page, sends the write again, reads, and counts. */
@@ -85,9 +96,10 @@ static void step(device *d, uint32_t page) {
     expect(o.refusal == UTASIRO_APPLIED && o.count == 0, "a write sent again is refused");
     is_read(d, page);
     is_read(d, (page + 1) % LOGICAL);
-    utasiro_counts c = utasiro_report(d->head, d->extents, 3 * SLOTS, d->blocks, 2 * BLOCKS, d->spare, BLOCKS * PAGES);
+    utasiro_counts c = utasiro_report(d->head, STATE);
     expect(c.refusal == UTASIRO_ACCEPTED && c.free == WRITABLE - d->written && c.live == d->live && c.stale == d->written - d->live,
            "a report counts right");
+    is_recorded(d);
 }
 
 /* A device in which pages are written `stride` apart. */

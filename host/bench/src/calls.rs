@@ -1,6 +1,6 @@
 //! Each call on states of several sizes, against one pass over the same words,
 //! against the test of a sound state in plain Rust, and against the same call of
-//! the plain implementation.
+//! the second implementation.
 
 use compare::to_library;
 use utasiro::Device;
@@ -31,8 +31,9 @@ const CALLS: [(Call, &str); 8] = [
     (Call::Fresh, "fresh"),
 ];
 
-/// The medians of a call: one pass, the test, the library, plain. Each is measured
-/// once in each round, on words copied afresh, so that all see the same machine.
+/// The medians of a call: one pass, the test, the library, the second implementation.
+/// Each is measured once in each round, on words copied afresh, so that all see the same
+/// machine.
 fn measure(sample: &Sample, call: Call) -> [f64; 4] {
     let mut lent = Lent::of(sample);
     let state = lent.words.clone();
@@ -47,7 +48,7 @@ fn measure(sample: &Sample, call: Call) -> [f64; 4] {
         lent.take(&state);
         times[2].push(nanoseconds(|| assert_eq!(black_box(lent.library(call)), 0)));
         lent.take(&state);
-        times[3].push(nanoseconds(|| assert_eq!(black_box(lent.plain(call)), 0)));
+        times[3].push(nanoseconds(|| assert_eq!(black_box(lent.second(call)), 0)));
     }
     times.map(median)
 }
@@ -56,7 +57,8 @@ fn measure(sample: &Sample, call: Call) -> [f64; 4] {
 pub fn table(samples: &[Sample]) -> Vec<String> {
     let mut lines = vec![
         String::from(
-            "| B x N | extents | call | to one pass | to the test in plain Rust | to plain | one pass, ns |",
+            "| B x N | extents | call | to one pass | to the test in plain Rust | to the second implementation \
+             | one pass, ns |",
         ),
         String::from("|---:|---:|---|---:|---:|---:|---:|"),
     ];
@@ -70,11 +72,11 @@ pub fn table(samples: &[Sample]) -> Vec<String> {
         ));
         for (call, name) in CALLS {
             progress::show(&format!("calls: B x N {size}, {used} extents, {name}"));
-            let [pass, test, library, plain] = measure(sample, call);
-            let ratios = [library / pass, library / test, library / plain].map(|ratio| format!("{ratio:.2}"));
-            let [to_pass, to_test, to_plain] = ratios;
+            let [pass, test, library, second] = measure(sample, call);
+            let ratios = [library / pass, library / test, library / second];
+            let [to_pass, to_test, to_second] = ratios.map(|ratio| format!("{ratio:.2}"));
             lines.push(format!(
-                "| {size} | {used} | {name} | {to_pass} | {to_test} | {to_plain} | {pass:.0} |"
+                "| {size} | {used} | {name} | {to_pass} | {to_test} | {to_second} | {pass:.0} |"
             ));
         }
     }
@@ -100,7 +102,7 @@ mod tests {
             assert!(device(sample).report().expect("a sound state").stale > 0);
             for (call, name) in CALLS {
                 assert_eq!(Lent::of(sample).library(call), 0, "{name}");
-                assert_eq!(Lent::of(sample).plain(call), 0, "{name}");
+                assert_eq!(Lent::of(sample).second(call), 0, "{name}");
             }
         }
     }

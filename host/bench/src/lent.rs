@@ -3,7 +3,7 @@
 use std::time::Instant;
 
 use compare::to_library;
-use plain::{generate, Head, Layer, Plain, Words};
+use second::{generate, Block, Head, Layer, Second, Words};
 use utasiro::ffi;
 
 /// M of every state, so that few extents and many are in the same words.
@@ -57,22 +57,23 @@ impl Lent {
     /// Makes the last block's valid count wrong, which is the last thing that a test of the
     /// state comes to: a call is then refused 2 after the whole test and does nothing else.
     pub fn spoil(&mut self) {
-        let valid = self.words.blocks.last_mut().expect("a device has blocks");
-        *valid += 1;
+        let last = self.head.blocks - 1;
+        let record = self.words.block(last);
+        self.words.put_block(last, Block { valid: record.valid + 1, ..record });
     }
 
-    /// A call of plain; its refusal.
-    pub fn plain(&mut self, call: Call) -> u32 {
+    /// A call of the second implementation; its refusal.
+    pub fn second(&mut self, call: Call) -> u32 {
         let (head, (start, count)) = (self.head, self.range);
         let Lent { words, answer, .. } = self;
         match call {
-            Call::Report => Plain.report(head, words).refusal,
-            Call::Read | Call::ReadRecords => Plain.read(head, words, start, count, answer).refusal,
-            Call::ReadAll => Plain.read(head, words, 0, head.logical, answer).refusal,
-            Call::Write => Plain.write(head, words, head.last + 1, start, count, answer).refusal,
-            Call::Trim => Plain.trim(head, words, head.last + 1, start, count).refusal,
-            Call::Reclaim => Plain.reclaim(head, words, answer).refusal,
-            Call::Fresh => Plain.fresh(head.blocks, head.pages, head.logical, head.slots, words).refusal,
+            Call::Report => Second.report(head, words).refusal,
+            Call::Read | Call::ReadRecords => Second.read(head, words, start, count, answer).refusal,
+            Call::ReadAll => Second.read(head, words, 0, head.logical, answer).refusal,
+            Call::Write => Second.write(head, words, head.last + 1, start, count, answer).refusal,
+            Call::Trim => Second.trim(head, words, head.last + 1, start, count).refusal,
+            Call::Reclaim => Second.reclaim(head, words, answer).refusal,
+            Call::Fresh => Second.fresh(head.blocks, head.pages, head.logical, head.slots, words).refusal,
         }
     }
 

@@ -1,7 +1,7 @@
 //! The bytes of the map in use, twelve an extent, against four bytes a page, after
 //! the workloads of the source documents scaled to our sizes.
 
-use plain::random::Random;
+use second::random::Random;
 use utasiro::{Device, Refusal, Sizes};
 
 use crate::progress;

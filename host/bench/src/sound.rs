@@ -1,7 +1,7 @@
 //! The test of a sound state in plain Rust, rules 1 to 6 directly over the words,
 //! as tight as it gets without `unsafe`; and one pass over the same words.
 
-use plain::{Head, Words, ERASED};
+use second::{Block, Head, Words, ERASED};
 
 /// One vectorised pass over all that is lent: the least that any call must do.
 pub fn pass(words: &Words) -> u32 {
@@ -12,12 +12,12 @@ pub fn pass(words: &Words) -> u32 {
 /// Whether a state of the right shape is sound.
 pub fn sound(head: Head, words: &Words) -> bool {
     let (pages, used) = (head.pages as usize, head.used as usize);
-    if head.used > head.slots || head.reserve >= head.blocks || words.blocks[2 * head.reserve as usize] != 0 {
+    if head.used > head.slots || head.reserve >= head.blocks || words.block(head.reserve).fill != 0 {
         return false;
     }
-    let fills_and_labels = words.blocks.chunks_exact(2).zip(words.spare.chunks_exact(pages));
-    for (block, labels) in fills_and_labels {
-        if block[0] > head.pages || !labels_fit(labels, block[0] as usize, head.logical) {
+    let records_and_labels = Block::all(&words.blocks).zip(words.spare.chunks_exact(pages));
+    for (block, labels) in records_and_labels {
+        if block.fill > head.pages || !labels_fit(labels, block.fill as usize, head.logical) {
             return false;
         }
     }
@@ -29,7 +29,7 @@ pub fn sound(head: Head, words: &Words) -> bool {
     if !extents_fit(head, in_use, words, &mut mapped) {
         return false;
     }
-    words.blocks.chunks_exact(2).zip(&mapped).fold(true, |same, (block, &pages)| same & (block[1] == pages))
+    Block::all(&words.blocks).zip(&mapped).fold(true, |same, (block, &pages)| same & (block.valid == pages))
 }
 
 /// Rule 3 for a block: labels below L below the fill, erased from it on.
@@ -48,8 +48,8 @@ fn extents_fit(head: Head, in_use: &[u32], words: &Words, mapped: &mut [u32; 102
         if physical >= head.blocks * head.pages {
             return false;
         }
-        let (block, offset) = ((physical / head.pages) as usize, physical % head.pages);
-        let fill = words.blocks[2 * block];
+        let (block, offset) = (physical / head.pages, physical % head.pages);
+        let fill = words.blocks[Block::fill_at(block)];
         // Each is below 2^31 where the one before holds, so no sum runs over.
         let inside = logical < head.logical && count >= 1 && count <= head.logical - logical;
         if !inside || logical < end || count > fill || offset + count > fill {
@@ -64,7 +64,7 @@ fn extents_fit(head: Head, in_use: &[u32], words: &Words, mapped: &mut [u32; 102
         if !labelled {
             return false;
         }
-        mapped[block] += count;
+        mapped[block as usize] += count;
         end = logical + count;
         next = physical + count;
     }
@@ -74,14 +74,14 @@ fn extents_fit(head: Head, in_use: &[u32], words: &Words, mapped: &mut [u32; 102
 #[cfg(test)]
 mod tests {
     use super::sound;
-    use plain::generate;
-    use plain::host::Host;
-    use plain::random::Random;
-    use plain::requests::Buffer;
-    use plain::{Head, Layer, Plain, Words};
+    use second::generate;
+    use second::host::Host;
+    use second::random::Random;
+    use second::requests::Buffer;
+    use second::{Head, Layer, Second, Words};
 
     fn agrees(head: Head, words: &Words) -> bool {
-        let refused = Plain.report(head, words).refusal == 2;
+        let refused = Second.report(head, words).refusal == 2;
         assert_eq!(sound(head, words), !refused, "{head:?} {words:?}");
         !refused
     }
@@ -104,13 +104,13 @@ mod tests {
         (head, words)
     }
 
-    /// The test says what plain says, of sound states and damaged ones.
+    /// The test says what the second implementation says, of sound states and damaged ones.
     #[test]
-    fn the_direct_test_agrees_with_plain() {
+    fn the_direct_test_agrees_with_the_second_implementation() {
         let mut random = Random::new(41);
         let (mut sound_ones, mut others) = (0, 0);
         for _ in 0..300 {
-            let mut host = Host::replay(Plain, &[generate::sizes(&mut random, 6, 6)], true).expect("fresh");
+            let mut host = Host::replay(Second, &[generate::sizes(&mut random, 6, 6)], true).expect("fresh");
             for _ in 0..40 {
                 for request in generate::call(&mut random, host.head()) {
                     host.run(request).expect("a history");

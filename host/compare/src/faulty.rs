@@ -1,7 +1,7 @@
 //! Layers with a fault each, to try the checks themselves: a layer that does as it
 //! should, with what goes into a call or comes out of it changed.
 
-use plain::{Counts, Head, Layer, Outcome, Refusal, Words, ERASED, HOLE};
+use second::{Block, Counts, Head, Layer, Outcome, Refusal, Words, ERASED, HOLE};
 
 /// What is wrong with a layer, by the call that it is in.
 #[derive(Clone, Copy, Debug, PartialEq, Eq)]
@@ -48,11 +48,15 @@ pub struct Faulty<L> {
 }
 
 fn fill(words: &Words, block: u32) -> u32 {
-    words.blocks[2 * block as usize]
+    words.block(block).fill
 }
 
 fn valid(words: &Words, block: u32) -> u32 {
-    words.blocks[2 * block as usize + 1]
+    words.block(block).valid
+}
+
+fn set_valid(words: &mut Words, block: u32, valid: u32) {
+    words.put_block(block, Block { valid, ..words.block(block) });
 }
 
 /// Sets a word, if it is there.
@@ -108,9 +112,11 @@ impl Exchange {
 
     /// Exchanges the records, the labels, and the pages that extents name.
     fn words(&self, words: &mut Words) {
-        let [a, b] = self.blocks.map(|block| block as usize);
-        let pages = self.pages as usize;
-        (0..2).for_each(|k| words.blocks.swap(2 * a + k, 2 * b + k));
+        let [a, b] = self.blocks;
+        let (at_a, at_b) = (words.block(a), words.block(b));
+        words.put_block(a, at_b);
+        words.put_block(b, at_a);
+        let (a, b, pages) = (a as usize, b as usize, self.pages as usize);
         (0..pages).for_each(|k| words.spare.swap(a * pages + k, b * pages + k));
         let in_use = words.extents.chunks_exact_mut(3).filter(|slot| slot[2] > 0);
         in_use.for_each(|slot| slot[1] = self.page(slot[1]));
@@ -285,9 +291,9 @@ impl<L: Layer> Layer for Faulty<L> {
         let fell = (0..head.blocks).find(|&block| valid(words, block) < valid(&before, block));
         let live = (0..head.blocks).find(|&block| valid(words, block) > 0);
         match (self.fault, fell, live) {
-            (Fault::TrimKeepsAValidCount, Some(block), _) => words.blocks[2 * block as usize + 1] += 1,
+            (Fault::TrimKeepsAValidCount, Some(block), _) => set_valid(words, block, valid(words, block) + 1),
             (Fault::TrimLowersAValidCountForAHole, None, Some(block)) => {
-                words.blocks[2 * block as usize + 1] -= 1;
+                set_valid(words, block, valid(words, block) - 1);
             }
             _ => {}
         }
@@ -345,8 +351,8 @@ impl<L: Layer> Layer for Faulty<L> {
     }
 
     fn report(&self, head: Head, words: &Words) -> Counts {
-        let fills = words.blocks.iter().step_by(2).take(head.blocks as usize);
-        let empty = (0..).zip(fills).find(|(_, &fill)| fill == 0).map(|(block, _)| block);
+        let records = Block::all(&words.blocks).take(head.blocks as usize);
+        let empty = (0..).zip(records).find(|(_, record)| record.fill == 0).map(|(block, _)| block);
         let counts = match (self.fault, empty) {
             (Fault::ReportIgnoresTheReservesFill, Some(reserve)) if head.reserve < head.blocks => {
                 self.layer.report(Head { reserve, ..head }, words)

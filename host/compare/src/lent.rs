@@ -1,7 +1,7 @@
 //! The library as a layer. Each buffer is lent between words that no call may
 //! change, and what is lent to be read only is compared afterwards.
 
-use plain::{Counts, Head, Layer, Outcome, Words};
+use second::{Counts, Head, Layer, Outcome, Words};
 use utasiro::ffi;
 
 /// The library.

@@ -1,13 +1,13 @@
-//! A layer and plain, side by side.
+//! A layer and the second implementation, side by side.
 
 use std::fmt::Debug;
 
-use plain::generate;
-use plain::host::{call, UNTOUCHED};
-use plain::random::Random;
-use plain::requests::{Buffer, Request, MOST_ROOM};
-use plain::shrink::{self, Checked, Failure, Shown, Tried};
-use plain::{Head, Layer, Outcome, Plain, Refusal, Words};
+use second::generate;
+use second::host::{call, UNTOUCHED};
+use second::random::Random;
+use second::requests::{Buffer, Request, MOST_ROOM};
+use second::shrink::{self, Checked, Failure, Shown, Tried};
+use second::{Head, Layer, Outcome, Refusal, Second, Words};
 
 use crate::lent::{ONLY_READ_CHANGED, OUTSIDE_CHANGED};
 
@@ -21,15 +21,15 @@ pub fn add(total: &mut Given, given: Given) {
     total.iter_mut().zip(given).for_each(|(sum, n)| *sum += n);
 }
 
-/// A layer, plain, and what is lent to both. What one does otherwise than the other is
-/// a failure.
+/// A layer, the second implementation, and what is lent to both. What one does otherwise
+/// than the other is a failure.
 #[derive(Clone)]
 pub struct Pair<L> {
     layer: L,
     head: Head,
-    /// The words as the layer left them; plain's are the same.
+    /// The words as the layer left them; those of the second implementation are the same.
     words: Words,
-    plain_words: Words,
+    second_words: Words,
     room: u32,
     calls: u64,
     given: Given,
@@ -39,8 +39,8 @@ impl<L: Layer + Clone> Pair<L> {
     /// Before the first accepted fresh nothing is lent, and there is as much room for
     /// answers as in a replay.
     pub fn new(layer: L) -> Pair<L> {
-        let (head, words, plain_words) = (Head::default(), Words::default(), Words::default());
-        Pair { layer, head, words, plain_words, room: MOST_ROOM, calls: 0, given: [0; 9] }
+        let (head, words, second_words) = (Head::default(), Words::default(), Words::default());
+        Pair { layer, head, words, second_words, room: MOST_ROOM, calls: 0, given: [0; 9] }
     }
 
     /// Runs a history.
@@ -67,7 +67,7 @@ impl<L: Layer + Clone> Pair<L> {
 
     /// Lends a buffer with a word less, or with one more.
     pub fn lend_one_off(&mut self, buffer: Buffer, longer: bool) {
-        for words in [&mut self.words, &mut self.plain_words] {
+        for words in [&mut self.words, &mut self.second_words] {
             one_off(words, buffer, longer);
         }
     }
@@ -90,7 +90,7 @@ impl<L: Layer + Clone> Pair<L> {
     }
 
     fn poke(&mut self, buffer: Buffer, index: usize, value: u32) -> Checked {
-        for words in [&mut self.words, &mut self.plain_words] {
+        for words in [&mut self.words, &mut self.second_words] {
             *buffer.of(words).get_mut(index).ok_or("a poke outside")? = value;
         }
         Ok(())
@@ -104,21 +104,21 @@ impl<L: Layer + Clone> Pair<L> {
             _ => return Err(Failure::from("no fresh")),
         };
         Buffer::ALL.into_iter().for_each(|buffer| buffer.of(&mut words).fill(UNTOUCHED));
-        let mut plain_words = words.clone();
+        let mut second_words = words.clone();
         let outcome = self.layer.fresh(blocks, pages, logical, slots, &mut words);
-        let expected = Plain.fresh(blocks, pages, logical, slots, &mut plain_words);
+        let expected = Second.fresh(blocks, pages, logical, slots, &mut second_words);
         self.count(outcome.refusal);
         same_outcome(request, &outcome, &expected)?;
-        same_words(request, &words, &plain_words)?;
+        same_words(request, &words, &second_words)?;
         if outcome.refusal == 0 {
-            (self.head, self.words, self.plain_words) = (outcome.head, words, plain_words);
+            (self.head, self.words, self.second_words) = (outcome.head, words, second_words);
         }
         Ok(outcome.refusal)
     }
 
     fn report(&mut self) -> Checked<u32> {
         let counts = self.layer.report(self.head, &self.words);
-        let expected = Plain.report(self.head, &self.plain_words);
+        let expected = Second.report(self.head, &self.second_words);
         self.count(counts.refusal);
         same_refusal(Request::Report, counts.refusal, expected.refusal)?;
         same(Request::Report, "counts", &counts, &expected)?;
@@ -127,14 +127,14 @@ impl<L: Layer + Clone> Pair<L> {
 
     fn call(&mut self, request: Request) -> Checked<u32> {
         let mut answer = vec![UNTOUCHED; self.room as usize];
-        let mut plain_answer = answer.clone();
+        let mut second_answer = answer.clone();
         let outcome = call(&self.layer, self.head, &mut self.words, request, &mut answer);
-        let expected = call(&Plain, self.head, &mut self.plain_words, request, &mut plain_answer);
+        let expected = call(&Second, self.head, &mut self.second_words, request, &mut second_answer);
         let (outcome, expected) = outcome.zip(expected).ok_or("a call without an outcome")?;
         self.count(outcome.refusal);
         same_outcome(request, &outcome, &expected)?;
-        same_buffer(request, "answer", &answer, &plain_answer)?;
-        same_words(request, &self.words, &self.plain_words)?;
+        same_buffer(request, "answer", &answer, &second_answer)?;
+        same_words(request, &self.words, &self.second_words)?;
         self.head = outcome.head;
         Ok(outcome.refusal)
     }
@@ -157,18 +157,18 @@ pub fn one_off(words: &mut Words, buffer: Buffer, longer: bool) {
     }
 }
 
-/// The failure of a request, of which this is not as plain's.
+/// The failure of a request, of which this is not as the second implementation has it.
 fn differs(request: Request, what: &str, how: &str) -> Failure {
     let line = request.to_string();
     let call = line.split(' ').next().unwrap_or_default();
     Failure::new(format!("{call}: {what}"), format!("{line}: {how}"))
 }
 
-fn same<T: PartialEq + Debug>(request: Request, what: &str, given: &T, plain: &T) -> Checked {
-    if given == plain {
+fn same<T: PartialEq + Debug>(request: Request, what: &str, given: &T, second: &T) -> Checked {
+    if given == second {
         return Ok(());
     }
-    Err(differs(request, what, &format!("{what} {given:?}, but plain's is {plain:?}")))
+    Err(differs(request, what, &format!("{what} {given:?}, but the second implementation's is {second:?}")))
 }
 
 /// A refusal, or what stands for one, by its name.
@@ -182,35 +182,36 @@ fn named(refusal: u32) -> String {
 }
 
 /// Which refusals they are is part of the kind.
-fn same_refusal(request: Request, given: u32, plain: u32) -> Checked {
-    if given == plain {
+fn same_refusal(request: Request, given: u32, second: u32) -> Checked {
+    if given == second {
         return Ok(());
     }
-    let how = format!("{}, but plain's is {}", named(given), named(plain));
+    let how = format!("{}, but the second implementation's is {}", named(given), named(second));
     Err(differs(request, &how, &how))
 }
 
-pub fn same_outcome(request: Request, given: &Outcome, plain: &Outcome) -> Checked {
-    same_refusal(request, given.refusal, plain.refusal)?;
-    same(request, "count", &given.count, &plain.count)?;
-    same(request, "head", &given.head, &plain.head)
+pub fn same_outcome(request: Request, given: &Outcome, second: &Outcome) -> Checked {
+    same_refusal(request, given.refusal, second.refusal)?;
+    same(request, "count", &given.count, &second.count)?;
+    same(request, "head", &given.head, &second.head)
 }
 
-pub fn same_buffer(request: Request, what: &str, given: &[u32], plain: &[u32]) -> Checked {
-    if given == plain {
+pub fn same_buffer(request: Request, what: &str, given: &[u32], second: &[u32]) -> Checked {
+    if given == second {
         return Ok(());
     }
-    let index = given.iter().zip(plain).position(|(word, expected)| word != expected);
-    let index = index.unwrap_or(given.len().min(plain.len()));
+    let index = given.iter().zip(second).position(|(word, expected)| word != expected);
+    let index = index.unwrap_or(given.len().min(second.len()));
     let word = |buffer: &[u32]| buffer.get(index).map_or(String::from("none"), u32::to_string);
-    let how = format!("word {index} of {what} is {}, but plain's is {}", word(given), word(plain));
+    let (given, second) = (word(given), word(second));
+    let how = format!("word {index} of {what} is {given}, but the second implementation's is {second}");
     Err(differs(request, what, &how))
 }
 
-fn same_words(request: Request, given: &Words, plain: &Words) -> Checked {
-    same_buffer(request, "extents", &given.extents, &plain.extents)?;
-    same_buffer(request, "blocks", &given.blocks, &plain.blocks)?;
-    same_buffer(request, "spare", &given.spare, &plain.spare)
+fn same_words(request: Request, given: &Words, second: &Words) -> Checked {
+    same_buffer(request, "extents", &given.extents, &second.extents)?;
+    same_buffer(request, "blocks", &given.blocks, &second.blocks)?;
+    same_buffer(request, "spare", &given.spare, &second.spare)
 }
 
 /// A pair with the requests that led to it from nothing.

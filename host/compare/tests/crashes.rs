@@ -5,8 +5,8 @@
 use std::fmt;
 
 use compare::{random, times};
-use plain::random::Random;
-use utasiro::{Board, Failure, Refusal, Saved, Sizes, Store};
+use second::random::Random;
+use utasiro::{Block, Board, Failure, Refusal, Saved, Sizes, Store};
 
 /// A page of flash.
 #[derive(Clone, Copy, Debug, PartialEq)]
@@ -295,7 +295,7 @@ fn open(chip: &mut Chip) -> Store<&mut Chip> {
 fn check_erased(store: &Store<&mut Chip>) {
     let (device, chip) = (store.device(), store.board());
     for block in 0..device.head().blocks {
-        let fill = device.blocks()[2 * block as usize];
+        let fill = Block::at(device.blocks(), block).expect("a record for each block").fill;
         let pages = &chip.pages[chip.block_of(block * chip.pages_of_block)];
         assert!(
             pages[fill as usize..].iter().all(|&page| page == Page::Erased),

@@ -2,7 +2,8 @@
 
 use compare::checks::damaged;
 use compare::Lent;
-use plain::shrink::Tried;
+use second::shrink::Tried;
+use second::Block;
 
 #[test]
 fn every_word_and_field_of_small_states() -> Tried {
@@ -29,13 +30,15 @@ fn words_of_large_states() -> Tried {
 #[test]
 fn boundaries_of_largest_states() -> Tried {
     let words = damaged::boundaries_of_largest_states(Lent)?;
-    assert_eq!(words, 44, "words tried");
+    // Two slots and four, four labels and six, three records and five.
+    assert_eq!(words, 3 * 6 + 10 + 8 * Block::WORDS, "words tried");
     Ok(())
 }
 
 #[test]
 fn words_of_every_block() -> Tried {
     let words = damaged::words_of_every_block(Lent)?;
-    assert_eq!(words, 4087 + 2048, "words refused 2");
+    // Labels, fills and valid counts.
+    assert_eq!(words, 4087 + 1024 + 1024, "words refused 2");
     Ok(())
 }

@@ -4,12 +4,12 @@
 use compare::checks::records::Readers;
 use compare::checks::{damaged, flash, histories, places, twice};
 use compare::{Fault, Faulty, Pair};
-use plain::requests::{parse, run, Request};
-use plain::shrink::{lines, Shown, Tried};
-use plain::Plain;
+use second::requests::{parse, run, Request};
+use second::shrink::{lines, Shown, Tried};
+use second::Second;
 
 /// A check and its name.
-type Check = (&'static str, fn(Faulty<Plain>) -> Tried);
+type Check = (&'static str, fn(Faulty<Second>) -> Tried);
 
 const HISTORIES: Check = ("histories", |layer| histories::tiny_devices(layer).map(|_| ()));
 const FLASH: Check = ("flash", flash::small_devices);
@@ -25,8 +25,8 @@ const RECORDS: Check = ("records", |layer| readers(layer).small_states().map(|_|
 const NUMBERS: Check =
     ("records: numbers", |layer| readers(layer).every_other_number_of_records().map(|_| ()));
 
-fn readers(over_records: Faulty<Plain>) -> Readers<Faulty<Plain>, Plain> {
-    Readers { over_records, over_words: Plain }
+fn readers(over_records: Faulty<Second>) -> Readers<Faulty<Second>, Second> {
+    Readers { over_records, over_words: Second }
 }
 
 /// Each fault, and the checks that are meant to find it.
@@ -73,20 +73,20 @@ fn printed(shown: &Shown) -> Vec<Request> {
     requests
 }
 
-/// A replay of the list takes every line, and its answers are other than plain's, but
-/// for a fault that only the answer buffer tells.
-fn shows_in_a_replay(layer: &Faulty<Plain>, shown: &Shown) {
+/// A replay of the list takes every line, and its answers are other than those of the
+/// second implementation, but for a fault that only the answer buffer tells.
+fn shows_in_a_replay(layer: &Faulty<Second>, shown: &Shown) {
     let only_in_the_buffer =
         [Fault::WriteRefusedChangesTheAnswer, Fault::ReadChangesAWordPastTheAnswer].contains(&layer.fault);
     let list = lines(&shown.list);
-    let answers = run(Plain, list.as_bytes());
+    let answers = run(Second, list.as_bytes());
     assert!(!answers.iter().any(|answer| answer.starts_with("line ")), "{shown}{answers:?}");
     assert_eq!(run(layer.clone(), list.as_bytes()) == answers, only_in_the_buffer, "{shown}");
 }
 
 /// The list is short, begins with a fresh and shows the fault from nothing on, unless
 /// it says that no list can.
-fn shows(layer: &Faulty<Plain>, shown: &Shown) {
+fn shows(layer: &Faulty<Second>, shown: &Shown) {
     let list = printed(shown);
     assert!(list.len() <= MOST_REQUESTS, "{shown}");
     assert!(matches!(list[0], Request::Fresh { .. }), "{shown}");
@@ -103,7 +103,7 @@ fn shows(layer: &Faulty<Plain>, shown: &Shown) {
 fn every_fault_is_found() {
     for &(fault, checks) in FAULTS {
         for (name, check) in checks {
-            let layer = Faulty { layer: Plain, fault };
+            let layer = Faulty { layer: Second, fault };
             let shown = check(layer.clone()).err();
             let shown = shown.unwrap_or_else(|| panic!("{fault:?} is not found by {name}"));
             println!("{fault:?} | {name} | {}", shown.list.len());

@@ -2,7 +2,7 @@
 
 use compare::checks::flash;
 use compare::Lent;
-use plain::shrink::Tried;
+use second::shrink::Tried;
 
 #[test]
 fn small_devices() -> Tried {

@@ -1,9 +1,9 @@
-//! Random histories from fresh: every answer and every lent word is compared with
-//! plain's. More than a million calls in all.
+//! Random histories from fresh: every answer and every lent word is compared with that
+//! of the second implementation. More than a million calls in all.
 
 use compare::checks::histories;
 use compare::{Given, Lent};
-use plain::shrink::Tried;
+use second::shrink::Tried;
 
 /// Every refusal but 1 and 2, which no history from fresh meets.
 fn all_given(total: Given, least: u64) {

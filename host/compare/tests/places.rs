@@ -2,7 +2,7 @@
 
 use compare::checks::places;
 use compare::Lent;
-use plain::shrink::Tried;
+use second::shrink::Tried;
 
 #[test]
 fn short_maps() -> Tried {

@@ -1,8 +1,9 @@
-//! The library's read over extent records, against its read over words and plain's.
+//! The library's read over extent records, against its read over words and that of the
+//! second implementation.
 
 use compare::checks::records::Readers;
 use compare::{Lent, OverRecords};
-use plain::shrink::Tried;
+use second::shrink::Tried;
 
 const READERS: Readers<OverRecords, Lent> = Readers { over_records: OverRecords, over_words: Lent };
 

@@ -3,7 +3,7 @@
 
 use compare::checks::twice;
 use compare::Lent;
-use plain::shrink::Tried;
+use second::shrink::Tried;
 
 #[test]
 fn nothing_changes_the_second_time() -> Tried {

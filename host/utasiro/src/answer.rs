@@ -1,14 +1,15 @@
 //! What goes into calls and what they answer, as types.
 
-use crate::HOLE;
+use crate::{Block, HOLE};
 
 /// The sizes of a device, and how many words of each kind it takes.
 ///
 /// ```
-/// use utasiro::Sizes;
+/// use utasiro::{Block, Sizes};
 ///
 /// let sizes = Sizes { blocks: 4, pages: 16, logical: 32, slots: 16 };
-/// assert_eq!((sizes.extent_words(), sizes.block_words(), sizes.spare_words()), (48, 8, 64));
+/// assert_eq!((sizes.extent_words(), sizes.spare_words()), (48, 64));
+/// assert_eq!(sizes.block_words(), 4 * Block::WORDS);
 /// ```
 #[derive(Clone, Copy, Debug, PartialEq, Eq)]
 pub struct Sizes {
@@ -32,9 +33,9 @@ impl Sizes {
         3 * least(self.slots, MOST.slots) as usize
     }
 
-    /// Words of the block records: 2B.
+    /// Words of the block records: [`Block::WORDS`] a block.
     pub const fn block_words(self) -> usize {
-        2 * least(self.blocks, MOST.blocks) as usize
+        Block::WORDS * least(self.blocks, MOST.blocks) as usize
     }
 
     /// Words of the spare labels: B x N.

@@ -120,7 +120,7 @@ impl<'a> Borrowed<'a> {
         self.extents
     }
 
-    /// 2B words: fill, valid of each block.
+    /// The words of the [`Block`](crate::Block) records, one for each block.
     pub fn blocks(&self) -> &[u32] {
         self.blocks
     }

@@ -147,12 +147,14 @@ impl Device {
     /// given, and the calls refuse what is no device.
     ///
     /// ```
-    /// # use utasiro::{Device, Refusal, Sizes};
+    /// # use utasiro::{Block, Device, Refusal, Sizes};
     /// # let device = Device::fresh(Sizes { blocks: 4, pages: 16, logical: 32, slots: 16 })?;
     /// let (head, extents, mut blocks, spare) = device.clone().into_parts();
     /// let same = Device::from_parts(head, extents.clone(), blocks.clone(), spare.clone());
     /// assert_eq!(same, device);
-    /// blocks[1] = 1;
+    /// let mut first = Block::at(&blocks, 0).expect("a record for each block");
+    /// first.valid = 1;
+    /// first.put(&mut blocks, 0);
     /// let damaged = Device::from_parts(head, extents, blocks, spare);
     /// assert_eq!(damaged.report(), Err(Refusal::Damaged));
     /// # Ok::<(), Refusal>(())
@@ -181,7 +183,7 @@ impl Device {
         slots.map(|slot| Extent { logical: slot[0], physical: slot[1], count: slot[2] }).collect()
     }
 
-    /// 2B words: fill, valid of each block.
+    /// The words of the [`Block`](crate::Block) records, one for each block.
     pub fn blocks(&self) -> &[u32] {
         &self.blocks
     }

@@ -4,7 +4,7 @@
 //!
 //! A device has B blocks of N pages; L logical pages; and M extent slots, an extent being a run of
 //! logical pages that lie one after the other in one block. One block is in reserve. Its state is a
-//! [`Head`] and three buffers of words.
+//! [`Head`] and three buffers of words: of the extents, of the [`Block`] records, and of the spare labels.
 //!
 //! Four layers, from the bottom:
 //! - [`ffi`]: the calls as the library exports them;
@@ -27,11 +27,11 @@
 //!
 //! # What a call costs
 //!
-//! Every call but fresh tests the whole state, so it reads every word of it: 3M + 2B + B x N. On the largest device a
-//! report, which is hardly more than the test, took 1.2 times as long as one sum over these words with few extents in
-//! use and 3.8 times with 8,192. On Arm, with the library recompiled, a read, a trim and a write of 48 pages took up to
-//! 1.1 times as long as a report there, a read of all pages up to 1.3 times and a reclaim up to 1.7 times. 8 KB of stack
-//! do for any of them but a read over records, which takes 98,304 bytes more.
+//! Every call but fresh tests the whole state, so it reads every word of it ([`Sizes`] counts them). On the largest
+//! device a report, which is hardly more than the test, took 1.2 times as long as one sum over these words with few
+//! extents in use and 3.8 times with 8,192. On Arm, with the library recompiled, a read, a trim and a write of 48 pages
+//! took up to 1.1 times as long as a report there, a read of all pages up to 1.3 times and a reclaim up to 1.7 times.
+//! 8 KB of stack do for any of them but a read over records, which takes 98,304 bytes more.
 //!
 //! # A request sent again
 //!
@@ -56,6 +56,7 @@
 extern crate std;
 
 mod answer;
+mod block;
 #[cfg(feature = "std")]
 mod board;
 mod borrowed;
@@ -70,6 +71,7 @@ mod refusal;
 mod store;
 
 pub use answer::{Moves, Piece, Pieces, Report, Sizes};
+pub use block::Block;
 #[cfg(feature = "std")]
 pub use board::{Board, Saved, SimulatedBoard};
 pub use borrowed::Borrowed;

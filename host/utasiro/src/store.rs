@@ -7,7 +7,7 @@ use std::error::Error;
 use std::fmt;
 use std::vec::Vec;
 
-use crate::{Board, Device, Reclaimed, Refusal, Report, Saved, SimulatedBoard, Sizes};
+use crate::{Block, Board, Device, Reclaimed, Refusal, Report, Saved, SimulatedBoard, Sizes};
 
 /// Why a store did not do what was asked.
 #[non_exhaustive]
@@ -253,7 +253,7 @@ impl<B: Board> Store<B> {
     }
 
     fn fill(&self, block: u32) -> u32 {
-        self.device.blocks()[2 * block as usize]
+        Block::at(self.device.blocks(), block).expect("a sound state has a record for each block").fill
     }
 
     fn page(&self, block: u32, offset: u32) -> u32 {

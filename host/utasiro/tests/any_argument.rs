@@ -1,6 +1,6 @@
 //! Nothing panics, whatever it is given.
 
-use utasiro::{Board, Borrowed, Device, Failure, Fault, Flash, Head, Moves};
+use utasiro::{Block, Board, Borrowed, Device, Failure, Fault, Flash, Head, Moves};
 use utasiro::{Piece, Refusal, Saved, SimulatedBoard, Sizes, Store, HOLE};
 
 const MOST: u32 = u32::MAX;
@@ -37,6 +37,31 @@ fn flashes_of_any_size() {
     assert_eq!((most.contents(0), most.contents(MOST)), (Some(1), Some(1)));
     assert_eq!(most.erase(1), Ok(()));
     assert_eq!((most.contents(0), most.contents(MOST)), (Some(1), None));
+}
+
+/// A record is there where its words are: what is put is what is there, and no other record changes.
+#[test]
+fn block_records_in_words_of_any_length() {
+    let mut record = Block::default();
+    (record.fill, record.valid) = (7, 5);
+    for length in 0..=3 * Block::WORDS {
+        let words: Vec<u32> = (100..).take(length).collect();
+        for block in [0, 1, 2, 3, 1 << 31, MOST] {
+            let is_there = (block as usize) < length / Block::WORDS;
+            let mut after = words.clone();
+            assert_eq!(Block::at(&words, block).is_some(), is_there);
+            assert_eq!(record.put(&mut after, block), is_there);
+            for other in 0..3 {
+                let before = Block::at(&words, other);
+                let expected = if other == block { before.and(Some(record)) } else { before };
+                assert_eq!(Block::at(&after, other), expected);
+            }
+            if let Some(before) = Block::at(&words, block) {
+                before.put(&mut after, block);
+            }
+            assert_eq!(after, words);
+        }
+    }
 }
 
 /// A head of any fields over words of any lengths that do not fit it.
@@ -107,7 +132,9 @@ fn stores_of_anything_saved() {
         assert_eq!(Store::open(board).map(|_| ()), damaged);
     }
     let (head, extents, mut blocks, spare) = board.saved.clone().expect("it is saved").device.into_parts();
-    blocks[0] = 1;
+    let mut first = Block::at(&blocks, 0).expect("a record for each block");
+    first.fill = 1;
+    assert!(first.put(&mut blocks, 0));
     let device = Device::from_parts(head, extents, blocks, spare);
     board.save(&Saved { device, putting_back: None }).expect("it is saved");
     assert_eq!(Store::open(board).map(|_| ()), damaged);

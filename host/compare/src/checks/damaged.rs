@@ -1,12 +1,12 @@
 //! Damaged states: words of sound states changed, each head field changed, each length
-//! one off. The answers must be plain's, and so must the words where what was changed
-//! is sound after all.
+//! one off. The answers must be those of the second implementation, and so must the
+//! words where what was changed is sound after all.
 
-use plain::generate;
-use plain::random::Random;
-use plain::requests::{to_reach, Buffer, Field, Request};
-use plain::shrink::{shown, Checked, Failure, Tried};
-use plain::{Head, Layer, Words, ERASED};
+use second::generate;
+use second::random::Random;
+use second::requests::{to_reach, Buffer, Field, Request};
+use second::shrink::{shown, Checked, Failure, Tried};
+use second::{Block, Head, Layer, Words, ERASED};
 
 use crate::pair::{one_off, states};
 use crate::{random, times, History, Pair};
@@ -70,8 +70,10 @@ fn each_field<L: Layer + Clone>(state: &History<L>) -> Tried<u64> {
     for field in Field::ALL {
         let now = field.of(head);
         let mut changed: Vec<u64> = values(now as u32, head).map(u64::from).to_vec();
-        // Three times this is 1 in 32 bits, and twice this is 0.
-        changed.extend([u64::from(u32::MAX) / 3 * 2 + 1, 1 << 31]);
+        // Three times this is 1 in 32 bits.
+        changed.push(u64::from(u32::MAX) / 3 * 2 + 1);
+        // The least that runs over 32 bits where it is taken for each word of a block record.
+        changed.push(u64::from(u32::MAX) / Block::WORDS as u64 + 1);
         if field == Field::Last {
             changed.extend([now.wrapping_sub(1), u64::MAX - 1, u64::MAX]);
         }
@@ -139,7 +141,7 @@ fn refused_1(request: Request, refusal: u32) -> Checked {
 }
 
 /// Every call after a history, with a buffer lent that is a word shorter or longer:
-/// refused 1, as plain does.
+/// refused 1, as the second implementation does.
 fn calls_one_off<L: Layer + Clone>(mut pair: Pair<L>, buffer: Buffer, longer: bool) -> Checked {
     pair.lend_one_off(buffer, longer);
     let head = pair.head();
@@ -284,9 +286,10 @@ fn places(buffer: Buffer, words: u32, rows: &[u32], below: u32) -> Vec<Place> {
 fn boundaries(head: Head) -> Vec<Place> {
     let Head { blocks, pages, slots, used, reserve, .. } = head;
     let (first, after, labels) = (reserve * pages, (reserve + 1) * pages, blocks * pages);
+    let records = [0, reserve - 1, reserve, reserve + 1, blocks - 1];
     let around = [0, first - 1, first, after - 1, after, labels - 1];
     let mut boundaries = places(Buffer::Extents, 3, &[0, used - 1, used, slots - 1], slots);
-    boundaries.extend(places(Buffer::Blocks, 2, &[0, reserve - 1, reserve, reserve + 1, blocks - 1], blocks));
+    boundaries.extend(places(Buffer::Blocks, Block::WORDS as u32, &records, blocks));
     boundaries.extend(places(Buffer::Spare, 1, &around, labels));
     boundaries
 }
@@ -311,20 +314,19 @@ pub fn boundaries_of_largest_states<L: Layer + Clone>(layer: L) -> Tried<usize> 
 /// there: its first and last label, the one below its fill and the one at it, its fill
 /// and its valid count.
 fn words_of_block(head: Head, words: &Words, block: u32) -> Vec<(Place, [u32; 2])> {
-    let record = 2 * block;
-    let fill = words.blocks[record as usize];
+    let fill = words.block(block).fill;
     let label = |offset: u32| {
         let place = Place { buffer: Buffer::Spare, index: block * head.pages + offset };
         (place, if offset < fill { [head.logical, ERASED] } else { [0, head.logical - 1] })
     };
-    let count = |index: u32| {
-        let place = Place { buffer: Buffer::Blocks, index };
+    let count = |index: usize| {
+        let place = Place { buffer: Buffer::Blocks, index: index as u32 };
         let word = place.word(words);
         (place, [word.wrapping_add(1), word.wrapping_sub(1)])
     };
     let offsets = [0, head.pages - 1, fill.wrapping_sub(1), fill];
     let labels = offsets.into_iter().filter(|&offset| offset < head.pages).map(label);
-    labels.chain([record, record + 1].map(count)).collect()
+    labels.chain([Block::fill_at(block), Block::valid_at(block)].map(count)).collect()
 }
 
 /// Words of every block of a largest state changed, with the calls and the values in

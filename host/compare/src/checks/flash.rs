@@ -1,13 +1,13 @@
 //! A host over the layer, with a simulated flash that does as answers list: every page
 //! reads as its last accepted write, no page is programmed twice between erases, pages
 //! of a block in order, and demand 3 runs to its bound. What is checked is in
-//! `plain::host`.
+//! `second::host`.
 
-use plain::generate;
-use plain::host::history;
-use plain::requests::Request;
-use plain::shrink::Tried;
-use plain::Layer;
+use second::generate;
+use second::host::history;
+use second::requests::Request;
+use second::shrink::Tried;
+use second::Layer;
 
 use crate::{random, times};
 

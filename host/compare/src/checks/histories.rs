@@ -1,11 +1,11 @@
-//! Random histories from fresh: every answer and every lent word is compared with
-//! plain's.
+//! Random histories from fresh: every answer and every lent word is compared with that
+//! of the second implementation.
 
-use plain::generate;
-use plain::random::Random;
-use plain::requests::{to_reach, Field, Request};
-use plain::shrink::Tried;
-use plain::Layer;
+use second::generate;
+use second::random::Random;
+use second::requests::{to_reach, Field, Request};
+use second::shrink::Tried;
+use second::Layer;
 
 use crate::{add, random, times, Given, History};
 

@@ -1,10 +1,10 @@
 //! Every place in a map: a read, a trim and a write from each logical page on, in maps
 //! of every number of extents up to some, and in one of many.
 
-use plain::generate;
-use plain::requests::{to_reach, Request};
-use plain::shrink::Tried;
-use plain::Layer;
+use second::generate;
+use second::requests::{to_reach, Request};
+use second::shrink::Tried;
+use second::Layer;
 
 use crate::History;
 

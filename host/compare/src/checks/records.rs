@@ -1,12 +1,13 @@
 //! Reading over extent records: the outcome and every word of the answer buffer must
-//! be those of the read over the same words, and plain's. On sound states, with words
-//! of the records or fields of the head changed, and with too few or too many records.
+//! be those of the read over the same words, and of the second implementation. On sound
+//! states, with words of the records or fields of the head changed, and with too few or
+//! too many records.
 
-use plain::generate;
-use plain::host::UNTOUCHED;
-use plain::requests::{to_reach, Buffer, Field, Request};
-use plain::shrink::{shown, Checked, Failure, Tried};
-use plain::{Head, Layer, Outcome, Plain, Words};
+use second::generate;
+use second::host::UNTOUCHED;
+use second::requests::{to_reach, Buffer, Field, Request};
+use second::shrink::{shown, Checked, Failure, Tried};
+use second::{Head, Layer, Outcome, Second, Words};
 
 use crate::pair::{same_buffer, same_outcome, states};
 use crate::{add, random, times, Given, History, Pair};
@@ -65,10 +66,10 @@ pub struct Readers<L, W> {
 }
 
 impl<L: Layer + Clone, W: Layer + Clone> Readers<L, W> {
-    /// One read over records and over words, compared with plain's.
+    /// One read over records and over words, compared with the second implementation's.
     fn same(&self, head: Head, words: &Words, asked: Asked) -> Checked<u32> {
         let [_, request] = asked.requests();
-        let (expected, expected_answer) = read(&Plain, head, words, asked);
+        let (expected, expected_answer) = read(&Second, head, words, asked);
         let over = [(&self.over_records as &dyn Layer, "records"), (&self.over_words, "words")];
         for (layer, what) in over {
             let (outcome, answer) = read(layer, head, words, asked);

@@ -1,11 +1,11 @@
 //! A request sent twice at every point of a history: nothing changes the second time.
 
-use plain::generate;
-use plain::host::{call, UNTOUCHED};
-use plain::random::Random;
-use plain::requests::{Request, MOST_ROOM};
-use plain::shrink::{shown, Checked, Failure, Tried};
-use plain::{Head, Layer, Outcome, Refusal, Words};
+use second::generate;
+use second::host::{call, UNTOUCHED};
+use second::random::Random;
+use second::requests::{Request, MOST_ROOM};
+use second::shrink::{shown, Checked, Failure, Tried};
+use second::{Head, Layer, Outcome, Refusal, Words};
 
 use crate::{random, times};
 

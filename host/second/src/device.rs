@@ -1,4 +1,4 @@
-//! The device as a plain table, one line per logical page, and what each call
+//! The device as a table, one line per logical page, and what each call
 //! does to it. A call takes the device by value: refused, what was given is
 //! dropped and nothing is left half done.
 

@@ -2,7 +2,7 @@
 //! to 6 of document 01, each by itself. All sums are taken as whole numbers.
 
 use crate::device::Device;
-use crate::{Extent, Head, Words, ERASED};
+use crate::{Block, Extent, Head, Words, ERASED};
 
 /// 01, numbers: the bounds of B, N, L and M. Each is tested before it is used
 /// in a product.
@@ -13,11 +13,11 @@ pub fn sizes_fit(blocks: u32, pages: u32, logical: u32, slots: u32) -> bool {
         && (1..=8192).contains(&slots)
 }
 
-/// 01, numbers: extents 3M, blocks 2B, spare B x N, each length exact. The sizes
-/// must fit.
+/// 01, numbers: the lengths of extents, blocks and spare, each exact. The sizes must
+/// fit.
 pub fn lengths_fit(blocks: u32, pages: u32, slots: u32, words: &Words) -> bool {
     words.extents.len() == 3 * slots as usize
-        && words.blocks.len() == 2 * blocks as usize
+        && words.blocks.len() == Block::WORDS * blocks as usize
         && words.spare.len() == (blocks * pages) as usize
 }
 
@@ -42,14 +42,6 @@ fn extents_in_use(head: Head, words: &Words) -> Vec<Extent> {
         .chunks_exact(3)
         .map(|slot| Extent { logical: slot[0], physical: slot[1], count: slot[2] })
         .collect()
-}
-
-fn fill(words: &Words, block: u32) -> u32 {
-    words.blocks[2 * block as usize]
-}
-
-fn valid(words: &Words, block: u32) -> u32 {
-    words.blocks[2 * block as usize + 1]
 }
 
 /// The first number after the run that starts at `start`, as a whole number.
@@ -87,7 +79,7 @@ fn joinable(head: Head, first: Extent, next: Extent) -> bool {
 /// erased from the fill on.
 fn rule_3(head: Head, words: &Words) -> bool {
     let in_block = |(block, labels): (usize, &[u32])| {
-        let fill = fill(words, block as u32);
+        let fill = words.block(block as u32).fill;
         if fill > head.pages {
             return false;
         }
@@ -104,7 +96,8 @@ fn rule_4(head: Head, extents: &[Extent], words: &Words) -> bool {
     let mapped = |e: &Extent| {
         (0..e.count).all(|k| {
             let page = e.physical + k;
-            page % head.pages < fill(words, page / head.pages) && words.spare[page as usize] == e.logical + k
+            let fill = words.block(page / head.pages).fill;
+            page % head.pages < fill && words.spare[page as usize] == e.logical + k
         })
     };
     extents.iter().all(|e| below(e) && mapped(e))
@@ -117,12 +110,12 @@ fn rule_5(head: Head, extents: &[Extent], words: &Words) -> bool {
     for e in extents {
         mapped[(e.physical / head.pages) as usize] += e.count;
     }
-    (0..head.blocks).all(|block| valid(words, block) == mapped[block as usize])
+    (0..head.blocks).all(|block| words.block(block).valid == mapped[block as usize])
 }
 
 /// 01, a sound state, rule 6: the reserve is below B and has fill 0.
 fn rule_6(head: Head, words: &Words) -> bool {
-    head.reserve < head.blocks && fill(words, head.reserve) == 0
+    head.reserve < head.blocks && words.block(head.reserve).fill == 0
 }
 
 fn table_of(head: Head, extents: &[Extent], words: &Words) -> Device {
@@ -131,7 +124,7 @@ fn table_of(head: Head, extents: &[Extent], words: &Words) -> Device {
         let lines = &mut device.table[e.logical as usize..(e.logical + e.count) as usize];
         lines.iter_mut().zip(e.physical..).for_each(|(line, page)| *line = page);
     }
-    device.fills = (0..head.blocks).map(|block| fill(words, block)).collect();
+    device.fills = (0..head.blocks).map(|block| words.block(block).fill).collect();
     device.spare.copy_from_slice(&words.spare);
     device.reserve = head.reserve;
     device.last = head.last;

@@ -1,13 +1,13 @@
-//! Random histories from fresh over the plain layer, with a simulated flash that
-//! does as answers list; what is checked is in `plain::host`. A failure prints the
+//! Random histories from fresh over the second implementation, with a simulated flash
+//! that does as answers list; what is checked is in `second::host`. A failure prints the
 //! shortest history it can find as a request list.
 
-use plain::generate;
-use plain::host::history;
-use plain::random::Random;
-use plain::requests::Request;
-use plain::shrink::Tried;
-use plain::Plain;
+use second::generate;
+use second::host::history;
+use second::random::Random;
+use second::requests::Request;
+use second::shrink::Tried;
+use second::Second;
 
 #[test]
 fn small_devices() -> Tried {
@@ -15,7 +15,7 @@ fn small_devices() -> Tried {
     let mut total = [0; 9];
     for _ in 0..600 {
         let fresh = generate::sizes(&mut random, 8, 8);
-        let given = history(Plain, &mut random, &[fresh], 300)?;
+        let given = history(Second, &mut random, &[fresh], 300)?;
         total.iter_mut().zip(given).for_each(|(sum, n)| *sum += n);
     }
     let never = [1, 2];
@@ -30,7 +30,7 @@ fn smallest_device() -> Tried {
     let mut random = Random::new(2);
     for _ in 0..50 {
         let fresh = Request::Fresh { blocks: 3, pages: 1, logical: 1, slots: 1 };
-        history(Plain, &mut random, &[fresh], 200)?;
+        history(Second, &mut random, &[fresh], 200)?;
     }
     Ok(())
 }
@@ -40,7 +40,7 @@ fn middling_devices() -> Tried {
     let mut random = Random::new(3);
     for slots in [1, 16, 100, 896] {
         for (blocks, pages, logical) in [(16, 64, 896), (64, 16, 992), (1024, 1, 1022), (3, 256, 256)] {
-            history(Plain, &mut random, &[Request::Fresh { blocks, pages, logical, slots }], 150)?;
+            history(Second, &mut random, &[Request::Fresh { blocks, pages, logical, slots }], 150)?;
         }
     }
     Ok(())
@@ -51,6 +51,6 @@ fn largest_device() -> Tried {
     let mut random = Random::new(4);
     let fresh = Request::Fresh { blocks: 1024, pages: 256, logical: 261_632, slots: 8192 };
     let filled = generate::filled(&mut random, fresh);
-    history(Plain, &mut random, &filled, 20)?;
+    history(Second, &mut random, &filled, 20)?;
     Ok(())
 }

@@ -1,11 +1,11 @@
 //! The request lists of tests/requests, whose expected output is written by hand
-//! from the papers, answered by the plain layer.
+//! from the papers, answered by the second implementation.
 
 use std::fs;
 use std::path::{Path, PathBuf};
 
-use plain::requests::{parse, run, to_reach, Replay};
-use plain::{generate, Head, Layer, Plain, Words};
+use second::requests::{parse, run, to_reach, Replay};
+use second::{generate, Head, Layer, Second, Words};
 
 fn lists() -> Vec<PathBuf> {
     let folder = Path::new(env!("CARGO_MANIFEST_DIR")).join("../../tests/requests");
@@ -25,7 +25,7 @@ fn every_list_answers_as_expected() {
     for path in lists {
         let list = fs::read(&path).expect("a list");
         let expected = fs::read_to_string(path.with_extension("expected")).expect("its expected output");
-        let answers = run(Plain, &list);
+        let answers = run(Second, &list);
         for (k, (answer, expected)) in answers.iter().zip(expected.lines()).enumerate() {
             assert_eq!(answer, expected, "{}: line {} of the output", path.display(), k + 1);
         }
@@ -54,7 +54,7 @@ fn a_state_is_reached_from_nothing() {
         })
         .collect();
     for (head, words) in &states {
-        assert_eq!(Plain.report(*head, words).refusal, 0);
+        assert_eq!(Second.report(*head, words).refusal, 0);
     }
     let (mut head, mut words) = states[0].clone();
     head.last = u64::MAX;
@@ -63,7 +63,7 @@ fn a_state_is_reached_from_nothing() {
     words.spare.fill(0);
     states.push((head, words));
     for (head, words) in states {
-        let mut replay = Replay::new(Plain);
+        let mut replay = Replay::new(Second);
         for request in to_reach(head, &words) {
             assert_eq!(replay.answer(request), Ok(vec![String::from("ok")]), "{request}");
         }

@@ -1,4 +1,4 @@
-//! The layer of document 01 written plainly, for comparing with the proved one.
+//! The second implementation of document 01, for comparing with the proved one.
 //!
 //! It is written from the paper alone and shares nothing with the proved
 //! definitions. It keeps one line per logical page (`device`), reads that table
@@ -9,17 +9,18 @@
 //! and the shortest history of a failure.
 //!
 //! ```
-//! use plain::{Layer, Plain, Words};
+//! use second::{Layer, Second, Words};
 //!
 //! let mut words = Words::of_sizes(4, 16, 16);
-//! let head = Plain.fresh(4, 16, 32, 16, &mut words).head;
+//! let head = Second.fresh(4, 16, 32, 16, &mut words).head;
 //! let mut answer = [0; 3];
-//! let first = Plain.write(head, &mut words, 1, 0, 2, &mut answer);
+//! let first = Second.write(head, &mut words, 1, 0, 2, &mut answer);
 //! assert_eq!((first.refusal, first.count, answer), (0, 1, [0, 0, 2]));
-//! let again = Plain.write(first.head, &mut words, 1, 0, 2, &mut answer);
-//! assert_eq!(again.refusal, plain::Refusal::Applied.number());
+//! let again = Second.write(first.head, &mut words, 1, 0, 2, &mut answer);
+//! assert_eq!(again.refusal, second::Refusal::Applied.number());
 //! ```
 
+mod block;
 pub mod device;
 pub mod flash;
 pub mod generate;
@@ -30,7 +31,8 @@ pub mod requests;
 pub mod shrink;
 mod sound;
 
-pub use layer::{words_of, Plain};
+pub use block::Block;
+pub use layer::{words_of, Second};
 
 /// The word of an erased spare entry.
 pub const ERASED: u32 = 4_294_967_295;
@@ -63,7 +65,7 @@ pub struct Head {
 pub struct Words {
     /// 3M words: logical start, physical start, page count of each slot.
     pub extents: Vec<u32>,
-    /// 2B words: fill, valid of each block.
+    /// A [`Block`] record for each block.
     pub blocks: Vec<u32>,
     /// B x N words: the label of each physical page.
     pub spare: Vec<u32>,
@@ -75,7 +77,7 @@ impl Words {
     pub fn of_sizes(blocks: u32, pages: u32, slots: u32) -> Words {
         Words {
             extents: vec![0; 3 * slots as usize],
-            blocks: vec![0; 2 * blocks as usize],
+            blocks: vec![0; Block::WORDS * blocks as usize],
             spare: vec![0; blocks as usize * pages as usize],
         }
     }

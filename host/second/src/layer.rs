@@ -3,11 +3,11 @@
 
 use crate::device::Device;
 use crate::sound::{device_of, lengths_fit, sizes_fit};
-use crate::{Counts, Extent, Head, Layer, Outcome, Refusal, Words};
+use crate::{Block, Counts, Extent, Head, Layer, Outcome, Refusal, Words};
 
-/// The plain layer.
+/// The second implementation.
 #[derive(Clone, Copy, Debug, Default)]
-pub struct Plain;
+pub struct Second;
 
 /// Refusals 1 and 2, and the table of what passes them.
 fn lent_device(head: Head, words: &Words) -> Result<Device, Refusal> {
@@ -39,9 +39,8 @@ fn put(device: &Device, words: &mut Words) -> Head {
     let extents = device.extents();
     put_extents(&extents, &mut words.extents);
     words.extents[3 * extents.len()..].fill(0);
-    for (block, (&fill, valid)) in device.fills.iter().zip(device.valid()).enumerate() {
-        words.blocks[2 * block] = fill;
-        words.blocks[2 * block + 1] = valid;
+    for (block, (&fill, valid)) in (0..).zip(device.fills.iter().zip(device.valid())) {
+        words.put_block(block, Block { fill, valid });
     }
     words.spare.copy_from_slice(&device.spare);
     Head {
@@ -61,7 +60,7 @@ fn put_extents(extents: &[Extent], words: &mut [u32]) {
     }
 }
 
-impl Layer for Plain {
+impl Layer for Second {
     fn fresh(&self, blocks: u32, pages: u32, logical: u32, slots: u32, words: &mut Words) -> Outcome {
         if !sizes_fit(blocks, pages, logical, slots) || !lengths_fit(blocks, pages, slots, words) {
             return refused(Refusal::Shape, Head { blocks, pages, logical, slots, ..Head::default() });

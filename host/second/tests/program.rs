@@ -1,4 +1,4 @@
-//! The program `replay-plain` from outside: where its list comes from, and what
+//! The program `replay-second` from outside: where its list comes from, and what
 //! it does when there is none.
 
 use std::io::Write;
@@ -6,7 +6,7 @@ use std::path::Path;
 use std::process::{Command, Output, Stdio};
 
 fn program() -> Command {
-    Command::new(env!("CARGO_BIN_EXE_replay-plain"))
+    Command::new(env!("CARGO_BIN_EXE_replay-second"))
 }
 
 fn with_input(list: &[u8]) -> Output {
@@ -68,6 +68,6 @@ fn no_file_or_a_folder_or_two_files_end_with_a_message() {
     for output in [with_file(&here.join("no-such-list.txt")), with_file(here), two] {
         assert_eq!(output.status.code(), Some(2));
         assert!(output.stdout.is_empty());
-        assert!(text(&output.stderr).starts_with("replay-plain: "));
+        assert!(text(&output.stderr).starts_with("replay-second: "));
     }
 }

@@ -1,14 +1,14 @@
 //! What a request list cannot lend: buffers of any length, and what comes back
 //! from a refused fresh.
 
-use plain::{Head, Layer, Outcome, Plain, Words};
+use second::{Head, Layer, Outcome, Second, Words};
 
 const SIZES: (u32, u32, u32, u32) = (4, 4, 8, 4);
 
 fn lent() -> (Head, Words) {
     let mut words = Words::of_sizes(SIZES.0, SIZES.1, SIZES.3);
-    let head = Plain.fresh(SIZES.0, SIZES.1, SIZES.2, SIZES.3, &mut words).head;
-    let write = Plain.write(head, &mut words, 1, 0, 4, &mut [0; 3]);
+    let head = Second.fresh(SIZES.0, SIZES.1, SIZES.2, SIZES.3, &mut words).head;
+    let write = Second.write(head, &mut words, 1, 0, 4, &mut [0; 3]);
     assert_eq!(write.refusal, 0);
     (write.head, words)
 }
@@ -35,11 +35,11 @@ fn a_length_one_off_is_refused_1_by_every_call() {
         let mut lent = wrong.clone();
         let mut answer = [7; 30];
         let refused = Outcome { refusal: 1, count: 0, head };
-        assert_eq!(Plain.write(head, &mut lent, 2, 0, 1, &mut answer), refused);
-        assert_eq!(Plain.trim(head, &mut lent, 2, 0, 1), refused);
-        assert_eq!(Plain.read(head, &lent, 0, 8, &mut answer), refused);
-        assert_eq!(Plain.reclaim(head, &mut lent, &mut answer), refused);
-        let counts = Plain.report(head, &lent);
+        assert_eq!(Second.write(head, &mut lent, 2, 0, 1, &mut answer), refused);
+        assert_eq!(Second.trim(head, &mut lent, 2, 0, 1), refused);
+        assert_eq!(Second.read(head, &lent, 0, 8, &mut answer), refused);
+        assert_eq!(Second.reclaim(head, &mut lent, &mut answer), refused);
+        let counts = Second.report(head, &lent);
         assert_eq!((counts.refusal, counts.free, counts.live, counts.stale), (1, 0, 0, 0));
         assert_eq!(counts.head, head);
         assert_eq!((lent, answer), (wrong, [7; 30]));
@@ -52,12 +52,12 @@ fn a_refused_fresh_gives_the_four_sizes_and_zero_elsewhere() {
     let sizes = Head { blocks: 4, pages: 4, logical: 8, slots: 4, ..Head::default() };
     for wrong in wrong_lengths(&words) {
         let mut lent = wrong.clone();
-        let fresh = Plain.fresh(SIZES.0, SIZES.1, SIZES.2, SIZES.3, &mut lent);
+        let fresh = Second.fresh(SIZES.0, SIZES.1, SIZES.2, SIZES.3, &mut lent);
         assert_eq!(fresh, Outcome { refusal: 1, count: 0, head: sizes });
         assert_eq!(lent, wrong);
     }
     let mut lent = words.clone();
-    let fresh = Plain.fresh(4, 4, u32::MAX, 4, &mut lent);
+    let fresh = Second.fresh(4, 4, u32::MAX, 4, &mut lent);
     assert_eq!(fresh, Outcome { refusal: 1, count: 0, head: Head { logical: u32::MAX, ..sizes } });
     assert_eq!(lent, words);
 }
@@ -65,12 +65,12 @@ fn a_refused_fresh_gives_the_four_sizes_and_zero_elsewhere() {
 #[test]
 fn fresh_takes_no_heed_of_old_contents() {
     let mut words = Words::of_sizes(SIZES.0, SIZES.1, SIZES.3);
-    let fresh = Plain.fresh(SIZES.0, SIZES.1, SIZES.2, SIZES.3, &mut words);
+    let fresh = Second.fresh(SIZES.0, SIZES.1, SIZES.2, SIZES.3, &mut words);
     let mut old = words.clone();
     for buffer in [&mut old.extents, &mut old.blocks, &mut old.spare] {
         buffer.fill(12345);
     }
-    assert_eq!(Plain.fresh(SIZES.0, SIZES.1, SIZES.2, SIZES.3, &mut old), fresh);
+    assert_eq!(Second.fresh(SIZES.0, SIZES.1, SIZES.2, SIZES.3, &mut old), fresh);
     assert_eq!(old, words);
 }
 
@@ -78,13 +78,13 @@ fn fresh_takes_no_heed_of_old_contents() {
 fn an_answer_overwrites_only_the_words_it_needs() {
     let (head, mut words) = lent();
     let mut answer = [7; 8];
-    assert_eq!(Plain.read(head, &words, 3, 2, &mut answer).count, 2);
+    assert_eq!(Second.read(head, &words, 3, 2, &mut answer).count, 2);
     assert_eq!(answer, [3, 3, 1, 4, u32::MAX, 1, 7, 7]);
     let mut answer = [7; 4];
-    let write = Plain.write(head, &mut words, 2, 0, 1, &mut answer);
+    let write = Second.write(head, &mut words, 2, 0, 1, &mut answer);
     assert_eq!((write.count, answer), (1, [0, 4, 1, 7]));
     let mut answer = [7; 5];
-    let reclaim = Plain.reclaim(write.head, &mut words, &mut answer);
+    let reclaim = Second.reclaim(write.head, &mut words, &mut answer);
     assert_eq!((reclaim.count, answer), (3, [1, 2, 3, 7, 7]));
 }
 
@@ -93,10 +93,10 @@ fn an_answer_overwrites_only_the_words_it_needs() {
 fn the_largest_sizes_are_taken_and_no_larger() {
     let mut words = Words::of_sizes(1024, 256, 8192);
     let most = 1022 * 256;
-    let fresh = Plain.fresh(1024, 256, most, 8192, &mut words);
+    let fresh = Second.fresh(1024, 256, most, 8192, &mut words);
     assert_eq!((fresh.refusal, fresh.head.reserve), (0, 1023));
-    assert_eq!(Plain.report(fresh.head, &words).free, 1023 * 256);
-    assert_eq!(Plain.fresh(1024, 256, most + 1, 8192, &mut words).refusal, 1);
+    assert_eq!(Second.report(fresh.head, &words).free, 1023 * 256);
+    assert_eq!(Second.fresh(1024, 256, most + 1, 8192, &mut words).refusal, 1);
     let mut more_slots = Words::of_sizes(1024, 256, 8193);
-    assert_eq!(Plain.fresh(1024, 256, most, 8193, &mut more_slots).refusal, 1);
+    assert_eq!(Second.fresh(1024, 256, most, 8193, &mut more_slots).refusal, 1);
 }

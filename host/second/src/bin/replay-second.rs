@@ -1,15 +1,15 @@
-//! Answers a request list with the plain layer: `replay-plain [FILE]`, or the
-//! list on standard input if no file is named.
+//! Answers a request list with the second implementation: `replay-second [FILE]`, or
+//! the list on standard input if no file is named.
 
 use std::io::{self, Read, Write};
 use std::process::ExitCode;
 
-use plain::{requests, Plain};
+use second::{requests, Second};
 
 fn main() -> ExitCode {
     let arguments: Vec<_> = std::env::args_os().skip(1).collect();
     if arguments.len() > 1 {
-        eprintln!("replay-plain: one file at most");
+        eprintln!("replay-second: one file at most");
         return ExitCode::from(2);
     }
     let (name, list) = match arguments.first() {
@@ -17,9 +17,9 @@ fn main() -> ExitCode {
         None => (String::from("standard input"), standard_input()),
     };
     match list {
-        Ok(list) => print(&requests::run(Plain, &list)),
+        Ok(list) => print(&requests::run(Second, &list)),
         Err(error) => {
-            eprintln!("replay-plain: cannot read {name}: {error}");
+            eprintln!("replay-second: cannot read {name}: {error}");
             ExitCode::from(2)
         }
     }
@@ -37,7 +37,7 @@ fn print(lines: &[String]) -> ExitCode {
     match printed.and_then(|()| out.flush()) {
         Ok(()) => ExitCode::SUCCESS,
         Err(error) => {
-            eprintln!("replay-plain: cannot print: {error}");
+            eprintln!("replay-second: cannot print: {error}");
             ExitCode::from(2)
         }
     }
