@@ -1,18 +1,14 @@
 -- From verdicts to answers, once for all calls: a call that both verdicts accept is ready; what it then leaves is what the rules give; and
 -- what either verdict refuses is refused.
-use Prim.Native.Nat.{ℕ, _*_}
-use mathlib.Core.Bool.{Bool, true}
+use Prim.Native.Nat.{ℕ}
+use mathlib.Core.Bool.{true}
 use mathlib.Core.Path.{_≡_, refl, sym, ap, _∙_}
-use mathlib.Core.List.{List, [], _∷_}
-use lib.Dec.{ltb, eqb}
+use mathlib.Core.List.{List}
 use lib.ListN.{length, length-replicate}
 use Rattle.rules.specs.Lent.{Lent}
 use Rattle.rules.specs.Shape.{shaped}
 use Rattle.rules.specs.Sound.{sound}
 use Rattle.rules.specs.Device.{Device, deviceOf, wordsOf}
-use Rattle.rules.specs.Placement.{pieces}
-use Rattle.rules.specs.Reclaim.{sources, victim}
-use Rattle.rules.specs.Read.{found}
 use Rattle.rules.specs.Answers.{Outcome, number}
 use Rattle.rules.specs.Calls.{Call, writeRefusal, trimRefusal, readRefusal, reclaimRefusal, refusal, counts, leaves, lists, buffer, over, refused, verdict, acceptedOn, call}
 use Rattle.rules.specs.declared.Refusal.{Refusal}
@@ -20,7 +16,7 @@ use Rattle.laws.specs.Sane.{Shaped, Sane}
 use Rattle.laws.specs.Shapes.{shaped-true}
 use Rattle.laws.specs.Sanes.{sound-sane}
 use Rattle.laws.specs.Kept.{Taken, taken}
-use Rattle.verdicts.specs.Refusals.{told, lentRefusal, roomed, lent-none, lent-some, verdict-plain, call-refused, call-accepted}
+use Rattle.verdicts.specs.Refusals.{told, lentRefusal, roomed, lent-none, verdict-plain, call-refused, call-accepted}
 use Rattle.verdicts.specs.declared.Verdict.{Verdict}
 
 -- ---- a verdict looks at the answer buffer's length alone

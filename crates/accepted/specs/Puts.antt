@@ -1,34 +1,28 @@
 -- The extents after a write: its pieces put in where the range was cut out, at slot `before`, the first of them joined to the extent before it
 -- where rule 2 asks.
-use Prim.Native.Nat.{ℕ, zero, suc, _+_, _-_, _*_, _%_, _≤_, _<_}
-use mathlib.Core.Bool.{Bool, true}
-use mathlib.Core.Path.{_≡_, refl, sym, ap, ap₂, _∙_, subst}
+use Prim.Native.Nat.{ℕ, _+_, _-_, _%_, _≤_, _<_}
+use mathlib.Core.Bool.{Bool}
+use mathlib.Core.Path.{_≡_, refl, sym, ap, _∙_, subst}
 use mathlib.Core.List.{List, [], _∷_}
 use native.Mathlib.Omega.{arith}
 use lib.ListN.{length, getD}
 use Rattle.rules.specs.Counting.{one}
 use Rattle.rules.specs.Extents.{none, extent, lookup, joinable, runs}
-use Rattle.rules.specs.Lent.{Lent, inUse}
-use Rattle.rules.specs.Device.{Device, blocks, lines, at, fill, free, extents, deviceOf}
-use Rattle.rules.specs.Placement.{putAt, putsAt, placesAt, target, targets, puts, places, pieces}
+use Rattle.rules.specs.Device.{Device, lines, at, free, extents}
+use Rattle.rules.specs.Placement.{putsAt, placesAt, targets, puts, places, pieces}
 use Rattle.rules.specs.declared.Extent.{Extent}
 use Rattle.laws.specs.Device.{Sound}
 use Rattle.laws.specs.Rows.{Rows}
 use Rattle.laws.specs.Runs.{runs-rows}
 use Rattle.laws.specs.Cut.{cut}
 use Rattle.laws.specs.Write.{place}
-use Rattle.laws.specs.Counts.{tally, startsBefore, leftJoin, tip, runs-tip, Begins, runs-first}
-use Rattle.laws.specs.Placed.{Opens, targets-open, length-targets, length-places, length-placed, places-lt, places-small}
+use Rattle.laws.specs.Counts.{tally, startsBefore, leftJoin, tip, runs-tip}
+use Rattle.laws.specs.Placed.{Opens, length-places, places-small}
+use Rattle.laws.specs.Order.{targets-open, length-targets, length-placed}
 use Rattle.laws.specs.Encoded.{write-extents}
-use Rattle.laws.specs.Growth.{New, places-new, new-page, next-page}
+use Rattle.laws.specs.Growth.{firstPlace, new-page, next-page, place-new, place-some, pieces-begin}
 use Rattle.laws.specs.States.{extents-lookup, extents-rows}
 use Rattle.putting.specs.Pieces.{putIn, place-put}
-use Rattle.writable.specs.Meeting.{firstOf}
-
-first-place : (l n : ℕ) (d : Device) → 0 < n → getD (places l n d) 0 none ≡ firstOf d
-unfolding places placesAt targets
-first-place l zero d h = absurd (omega arith)
-first-place l (suc n) d h = refl
 
 -- whether a piece is joinable does not hang on its count
 same-join : (n l p c : ℕ) (es : List Extent) → leftJoin n (extent l p 1) es ≡ leftJoin n (extent l p c) es
@@ -46,28 +40,6 @@ module _ (l n : ℕ) (d : Device) (s : Sound d) (some : 0 < n) (enough : n ≤ f
   fits : l + length (targets l n d) ≤ lines d
   fits = omega (arith, size)
 
-  new : (i : ℕ) → i < n → New d (getD (places l n d) i none)
-  unfolding places
-  new i h = places-new l (targets l n d) d s opens fits i (omega (arith, length-targets l n d))
-
-  page : (i : ℕ) → i < n → getD (places l n d) i none ≡ none → ⊥
-  unfolding places
-  page i h e = omega (arith, places-lt l (targets l n d) d s opens fits i (omega (arith, length-targets l n d)), e)
-
-  -- the first piece begins at line l, at the first page
-  pub begins : Begins l (firstOf d) (pieces l n d)
-  unfolding pieces
-  begins = go n refl
-    where
-      go : (m : ℕ) → n ≡ m → Begins l (firstOf d) (runs (d .pages) l (places l n d))
-      go zero e = absurd (omega arith)
-      go (suc m) e =
-          let bs = targets (suc l) m (putAt (target d) l d) in
-          let is : places l n d ≡ firstOf d ∷ placesAt (suc l) bs (putAt (target d) l d) =
-          ap (λ (x : ℕ). places l x d) e ∙ (unfold places placesAt targets in refl) in
-          let some-page : firstOf d ≡ none → ⊥ = λ g. page 0 some (ap (λ (ps : List ℕ). getD ps 0 none) is ∙ g) in
-          subst (λ (ps : List ℕ). Begins l (firstOf d) (runs (d .pages) l ps)) (sym is) (runs-first (d .pages) l (firstOf d) (placesAt (suc l) bs (putAt (target d) l d)) some-page)
-
   rows : Rows (d .pages) l none (l + n) (pieces l n d)
   unfolding pieces places
   rows =
@@ -79,34 +51,28 @@ module _ (l n : ℕ) (d : Device) (s : Sound d) (some : 0 < n) (enough : n ≤ f
 
   tip-is : (q : ℕ) → tip q (pieces l n d) ≡ getD (places l n d) (n - 1) none + 1
   unfolding pieces
-  tip-is q = runs-tip (d .pages) l (places l n d) q (n - 1) (omega (arith, length-placed l n d)) (page (n - 1) (omega arith))
+  tip-is q = runs-tip (d .pages) l (places l n d) q (n - 1) (omega (arith, length-placed l n d)) (place-some l n d s enough inside (n - 1) (omega arith))
 
-  left : lookup (extents d) l ≡ firstOf d → firstOf d % d .pages ≡ 0
-  left e = absurd (new-page d s (firstOf d) first-new l (sym (extents-lookup d s l) ∙ e))
-    where
-      is : getD (places l n d) 0 none ≡ firstOf d
-      is = first-place l n d some
-
-      first-new : New d (firstOf d)
-      first-new = subst (λ (p : ℕ). New d p) is (new 0 some)
+  left : lookup (extents d) l ≡ firstPlace l n d → firstPlace l n d % d .pages ≡ 0
+  left e = absurd (new-page d s (firstPlace l n d) (place-new l n d s enough inside 0 some) l (sym (extents-lookup d s l) ∙ e))
 
   right : lookup (extents d) (l + n) ≡ tip none (pieces l n d) → tip none (pieces l n d) % d .pages ≡ 0
   right e =
-      let w = new (n - 1) (omega arith) in
+      let w = place-new l n d s enough inside (n - 1) (omega arith) in
       ap (λ (x : ℕ). x % d .pages) (tip-is none)
       ∙ next-page d s (getD (places l n d) (n - 1) none) w (l + n) (sym (extents-lookup d s (l + n)) ∙ e ∙ tip-is none)
 
-  pub put-extents : (i : ℕ) (joined : Bool) → i ≡ startsBefore l (extents d) → one joined ≡ leftJoin (d .pages) (extent l (firstOf d) 1) (extents d)
+  pub put-extents : (i : ℕ) (joined : Bool) → i ≡ startsBefore l (extents d) → one joined ≡ leftJoin (d .pages) (extent l (firstPlace l n d) 1) (extents d)
       → putIn i joined (pieces l n d) (cut l (l + n) (extents d)) ≡ extents (puts l n d)
   unfolding puts
   put-extents i joined e j =
-      let b = begins in
-      let f = extent l (firstOf d) (b .count) in
+      let b = pieces-begin l n d s enough inside some in
+      let f = extent l (firstPlace l n d) (b .count) in
       let is : pieces l n d ≡ f ∷ b .rest = b .is in
       ap (λ (ps : List Extent). putIn i joined ps (cut l (l + n) (extents d))) is
       ∙ sym (place-put (d .pages) (lines d) l (l + n) f (b .rest) (extents d) inside
       (subst (λ (ps : List Extent). Rows (d .pages) l none (l + n) ps) is rows) (extents-rows d s) refl left
-      (subst (λ (ps : List Extent). lookup (extents d) (l + n) ≡ tip none ps → tip none ps % d .pages ≡ 0) is right) i joined e (j ∙ same-join (d .pages) l (firstOf d) (b .count) (extents d)))
+      (subst (λ (ps : List Extent). lookup (extents d) (l + n) ≡ tip none ps → tip none ps % d .pages ≡ 0) is right) i joined e (j ∙ same-join (d .pages) l (firstPlace l n d) (b .count) (extents d)))
       ∙ ap (λ (ps : List Extent). place (d .pages) l (l + n) ps (extents d)) (sym is)
       ∙ written
     where

@@ -13,7 +13,6 @@ use Rattle.rules.specs.Reclaim.{victim, sources, reclaimedAt, reclaimed}
 use Rattle.rules.specs.Answers.{said, outcome}
 use Rattle.rules.specs.Calls.{Call, counts, leaves, lists, over, call}
 use Rattle.rules.specs.declared.Head.{Head}
-use Rattle.rules.specs.declared.Extent.{Extent}
 use Rattle.laws.specs.Cells.{swept, block-le}
 use Rattle.laws.specs.Device.{Sound}
 use Rattle.laws.specs.Shapes.{lines-pages, pages-high, pages-fit}

@@ -1,14 +1,13 @@
 -- A report's answer, from the counts that the code adds up over the block records.
-use Prim.Native.Nat.{ℕ, _+_, _-_, _*_, _≤_, _<_}
-use mathlib.Core.Bool.{true, cond}
-use mathlib.Core.Path.{_≡_, refl, sym, ap, _∙_}
-use mathlib.Core.List.{List, [], _∷_}
-use native.Mathlib.Omega.{arith}
+use Prim.Native.Nat.{_-_}
+use mathlib.Core.Bool.{true}
+use mathlib.Core.Path.{_≡_, sym, _∙_}
+use mathlib.Core.List.{[], _∷_}
 use Rattle.rules.specs.Lent.{Lent}
 use Rattle.rules.specs.Shape.{shaped}
 use Rattle.rules.specs.Sound.{sound}
-use Rattle.rules.specs.Device.{Device, free, live, stale, deviceOf, wordsOf}
-use Rattle.rules.specs.Answers.{Outcome, said, outcome}
+use Rattle.rules.specs.Device.{free, live, stale, deviceOf}
+use Rattle.rules.specs.Answers.{said, outcome}
 use Rattle.rules.specs.Calls.{Call, refusal, counts, leaves, lists, over, acceptedOn, call}
 use Rattle.laws.specs.Sane.{Shaped, Sane}
 use Rattle.laws.specs.Shapes.{shaped-true}

@@ -1,16 +1,16 @@
 -- What cutting a range out of a sound state leaves: the words of the device whose lines in the range are holes. A trim is this and a number; a
 -- write begins with it.
 use Prim.Native.Nat.{ℕ, _+_, _-_, _*_, _/_, _≤_, _<_}
-use mathlib.Core.Path.{_≡_, refl, sym, ap, _∙_}
-use mathlib.Core.List.{List, [], _++_}
+use mathlib.Core.Path.{_≡_, refl, sym, ap, _∙_, ap₂}
+use mathlib.Core.List.{List, []}
 use mathlib.Core.Logic.{by-cases}
 use native.Mathlib.Omega.{arith}
 use native.Mathlib.Decide.{decLt}
 use borrow.Author.Tests.{ne-eqb}
 use lib.Dec.{eqb}
-use lib.ListN.{length, replicate}
+use lib.ListN.{length}
 use Rattle.rules.specs.Counting.{sum, count}
-use Rattle.rules.specs.Extents.{none, lookup, slot, flat}
+use Rattle.rules.specs.Extents.{none, lookup, slot}
 use Rattle.rules.specs.Blocks.{validWord}
 use Rattle.rules.specs.Lent.{Lent, lent, inUse, fillOf, validOf}
 use Rattle.rules.specs.Device.{Device, blocks, at, mapped, valid, extents, deviceOf, headOf, wordsOf}
@@ -18,7 +18,6 @@ use Rattle.rules.specs.Request.{kept, withTable, trimmed}
 use Rattle.rules.specs.Calls.{Call, counts, leaves, lists, over}
 use Rattle.rules.specs.declared.Head.{Head}
 use Rattle.rules.specs.declared.Last.{Last}
-use Rattle.rules.specs.declared.Extent.{Extent}
 use Rattle.laws.specs.Sums.{sum-zero, count-same}
 use Rattle.laws.specs.Sane.{Shaped, Sane}
 use Rattle.laws.specs.Shapes.{lines-pages, pages-high}
@@ -30,7 +29,7 @@ use Rattle.laws.specs.Encoded.{trim-extents}
 use Rattle.laws.specs.Tallies.{inRange, total, total-slots, in-range-slots, in-slots}
 use Rattle.laws.specs.Records.{words-records}
 use Rattle.laws.specs.States.{device-lines, device-blocks, device-at, sane-good, extents-in-use, valid-in-use}
-use Rattle.map.specs.Padded.{padded, Becomes, zeros-holds}
+use Rattle.map.specs.Padded.{padded, Becomes, zeros-holds, padded-words}
 use Rattle.map.specs.Sound.{Sound}
 use Rattle.cutting.specs.Cutting.{Cuttable}
 use Rattle.verdicts.specs.Reading.{rows-sound}
@@ -90,11 +89,8 @@ module _ (l n : ℕ) (s : Lent) (z : Cut l n s) where
   slots-same = refl
 
   pub cut-words : (ext : List ℕ) → ext ≡ padded (length (s .extentWords)) (cut l (l + n) (inUse s)) → ext ≡ wordsOf (holed l n s) .extentWords
-  unfolding padded wordsOf
   cut-words ext e =
-      let k : length (s .extentWords) - 3 * length (extents (holed l n s)) ≡ 3 * (holed l n s .slots - length (extents (holed l n s))) = omega (arith, z .shape .extents, slots-same) in
-      e ∙ ap (λ (es : List Extent). flat es ++ replicate (length (s .extentWords) - 3 * length es) 0) cut-extents
-      ∙ ap (λ (m : ℕ). flat (extents (holed l n s)) ++ replicate m 0) k
+      e ∙ ap₂ padded (z .shape .extents ∙ ap (λ (m : ℕ). 3 * m) (sym slots-same)) cut-extents ∙ padded-words (holed l n s)
 
   -- ---- the blocks
 

@@ -4,7 +4,7 @@ use mathlib.Core.Bool.{Bool, true, false}
 use mathlib.Core.Path.{_≡_, refl, sym, ap, ap₂, _∙_, subst}
 use mathlib.Core.List.{List, [], _∷_, _++_}
 use native.Mathlib.Omega.{arith}
-use lib.ListN.{length, replicate, drop, length-append}
+use lib.ListN.{length, drop, length-append}
 use Rattle.rules.specs.Counting.{one, count}
 use Rattle.rules.specs.Extents.{none, extent, slot, slotsFrom, flat}
 use Rattle.rules.specs.Blocks.{stride, fillWord, validWord, records}
@@ -27,20 +27,23 @@ use Rattle.laws.specs.Ranked.{rows-ranked}
 use Rattle.laws.specs.Cells.{tabulate-same}
 use Rattle.laws.specs.Lines.{trimmed-sound}
 use Rattle.laws.specs.Balance.{valid-stale}
-use Rattle.laws.specs.Placed.{Puts, puts-all, puts-slots, puts-pages, puts-reserve}
+use Rattle.laws.specs.Placed.{Puts, puts-slots, puts-pages, puts-reserve}
+use Rattle.laws.specs.Order.{puts-all}
 use Rattle.laws.specs.Records.{records-length, records-fill, records-valid, words-records}
+use Rattle.laws.specs.Spread.{startOf}
+use Rattle.laws.specs.Growth.{firstPlace, pieces-begin}
 use Rattle.laws.specs.Alike.{Alike, alike-free, alike-pieces, over-rise}
 use Rattle.laws.specs.States.{device-lines, device-blocks, device-fill, extents-in-use, sane-good}
-use Rattle.map.specs.Padded.{padded, Becomes, became-length, became-slots, became-holds}
+use Rattle.map.specs.Padded.{padded, padded-words, Becomes, became-length, became-slots, became-holds}
 use Rattle.putting.specs.Pieces.{putIn, Puttable}
 use Rattle.placing.specs.Bare.{bare, fillsOf, bare-alike}
 use Rattle.placing.specs.Place.{Placed, placed-alike, Ready as Placeable}
 use Rattle.verdicts.specs.Trimming.{trim-nodes}
-use Rattle.writable.specs.Meeting.{Writable, Meets, firstOf, piecesOf, grows}
+use Rattle.writable.specs.Meeting.{Writable, Meets, piecesOf, grows}
 use Rattle.writable.specs.declared.Meeting.{Meeting}
 use Rattle.accepted.specs.Accepts.{Ready}
 use Rattle.accepted.specs.Trims.{Cut, holed, Holed}
-use Rattle.accepted.specs.Puts.{begins, piece-rows, put-extents}
+use Rattle.accepted.specs.Puts.{piece-rows, put-extents}
 
 module _ (k l n : ℕ) (out : List ℕ) (s : Lent) (z : Ready (Call.write k l n out) s) where
   abbrev d : Device
@@ -62,7 +65,7 @@ module _ (k l n : ℕ) (out : List ℕ) (s : Lent) (z : Ready (Call.write k l n 
 
   some-pieces : 1 ≤ piecesOf l n s
   some-pieces =
-      let b = begins l n (deviceOf s) (good .sound) (z .taken .range .some) (z .taken .pages) (z .taken .range .inside) in
+      let b = pieces-begin l n (deviceOf s) (good .sound) (z .taken .pages) (z .taken .range .inside) (z .taken .range .some) in
       omega (arith, ap length (b .is))
 
   one-le : (b : Bool) → one b ≤ 1
@@ -141,7 +144,7 @@ module _ (k l n : ℕ) (out : List ℕ) (s : Lent) (z : Ready (Call.write k l n 
       fill-at : (b : ℕ) → fillWord blk b ≡ fill (holed l n s) b
       fill-at b = ap (λ (ws : List ℕ). fillWord ws b) (w .blocks) ∙ (unfold wordsOf in records-fill (holed l n s .fills) 0 (valid (holed l n s)) b)
 
-      pub placeable : Placeable (s .head .blocks) (s .head .pages) (s .head .reserve) l n blk (s .spare) out
+      pub placeable : Placeable (s .head .blocks) (s .head .pages) (s .head .reserve) (m .from) l n blk (s .spare) out
       placeable = record {
         blk-size = omega (arith, blk-length, z .shape .blocks);
         spare-size = omega (arith, z .shape .spare);
@@ -149,6 +152,7 @@ module _ (k l n : ℕ) (out : List ℕ) (s : Lent) (z : Ready (Call.write k l n 
         pages-few = z .shape .sizes .n-high;
         valid = λ b p. omega (arith, valid-at b p, fill-at b, valid-stale (holed l n s) trim-sound b (omega (arith, same-blocks)));
         lines = omega (arith, inside, lines-pages (z .shape .sizes), pages-high (z .shape .sizes));
+        start = e .from ∙ (unfold deviceOf in ap (λ (fs : List ℕ). startOf (s .head .pages) (s .head .reserve) fs n) (sym fills-are));
         room = omega (arith, alike-free (bare (s .head .blocks) (s .head .pages) (s .head .reserve) blk (s .spare)) (deviceOf s) alike, z .taken .pages);
         slots = omega (arith, ap length (alike-pieces l n (bare (s .head .blocks) (s .head .pages) (s .head .reserve) blk (s .spare)) (deviceOf s) alike), z .taken .room);
       }
@@ -205,7 +209,7 @@ module _ (k l n : ℕ) (out : List ℕ) (s : Lent) (z : Ready (Call.write k l n 
                   arith,
                   e .joined writes,
                   ap one t,
-                  left-none (s .head .pages) (s .head .logical) l (extent l (firstOf (deviceOf s)) 1) (inUse s) 0 none (z .sane .rows) refl (sym (e .sides .before) ∙ f),
+                  left-none (s .head .pages) (s .head .logical) l (extent l (firstPlace l n (deviceOf s)) 1) (inUse s) 0 none (z .sane .rows) refl (sym (e .sides .before) ∙ f),
                 ))
             go (suc b) f = omega arith
 
@@ -226,19 +230,17 @@ module _ (k l n : ℕ) (out : List ℕ) (s : Lent) (z : Ready (Call.write k l n 
               ap₂ (λ (ps cs : List Extent). putIn (m .sides .before) (m .joined) ps cs) listed (cut-slots ∙ ap (cut l (l + n)) (sym es))
               ∙ put-extents l n (deviceOf s) (good .sound) (z .taken .range .some) (z .taken .pages) (z .taken .range .inside) (m .sides .before) (m .joined)
               (e .sides .before ∙ ap (startsBefore l) (sym es))
-              (e .joined writes ∙ (unfold deviceOf in ap (leftJoin (s .head .pages) (extent l (firstOf (deviceOf s)) 1)) (sym es)))
+              (e .joined writes ∙ (unfold deviceOf in ap (leftJoin (s .head .pages) (extent l (firstPlace l n (deviceOf s)) 1)) (sym es)))
 
           -- ---- all of it
 
           used-is : v ≡ length (extents (puts l n (deviceOf s)))
           used-is = q .used ∙ ap length after
 
-          ext-is : ext′ ≡ flat (extents (puts l n (deviceOf s))) ++ replicate (3 * (puts l n (deviceOf s) .slots - length (extents (puts l n (deviceOf s))))) 0
-          unfolding padded
+          ext-is : ext′ ≡ wordsOf (puts l n (deviceOf s)) .extentWords
           ext-is =
-              let x : length ext - 3 * length (extents (puts l n (deviceOf s))) ≡ 3 * (puts l n (deviceOf s) .slots - length (extents (puts l n (deviceOf s)))) = omega (arith, ext-length, z .shape .extents, slots-same) in
-              q .is ∙ ap (λ (es : List Extent). flat es ++ replicate (length ext - 3 * length es) 0) after
-              ∙ ap (λ (y : ℕ). flat (extents (puts l n (deviceOf s))) ++ replicate y 0) x
+              let x : length ext ≡ 3 * puts l n (deviceOf s) .slots = omega (arith, ext-length, z .shape .extents, slots-same) in
+              q .is ∙ ap₂ padded x after ∙ padded-words (puts l n (deviceOf s))
 
           valid-is : (b : ℕ) → b < s .head .blocks → valid (puts l n (deviceOf s)) b ≡ validWord blk′ b
           valid-is b h =

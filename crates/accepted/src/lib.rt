@@ -107,7 +107,7 @@ pub fn place_pages(
 {
     let sides = m.sides;
     let left = cut_range(h, ext, blk, spare, sides, l, n);
-    let k = placing::place(blk, spare, out, h.blocks, h.pages, h.reserve, l, n);
+    let k = placing::place(blk, spare, out, h.blocks, h.pages, h.reserve, m.from, l, n);
     let used = putting::put_pieces(ext, left as usize, sides.before, m.joined, out, k as usize);
     let mut g = h;
     g.used = used as u32;

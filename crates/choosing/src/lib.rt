@@ -25,10 +25,13 @@ pub fn victim_of(blk: &[u32], blocks: u32) -> u32
     ensures { λ v. ⌜ v ≡ most blocks (staleWord (now (blk .entry))) ⌝ }
 {
     let mut v: u32 = 0;
+    let mut most: u32 = 0;
     let mut b: u32 = 0;
     while b < blocks {
-        if stale_of(blk, v as usize) < stale_of(blk, b as usize) {
+        let stale = stale_of(blk, b as usize);
+        if most < stale {
             v = b;
+            most = stale;
         }
         b += 1;
     }

@@ -12,7 +12,7 @@ use Rattle.rules.specs.Request.{withTable, numbered, written, trimmed}
 use Rattle.rules.specs.Reclaim.{victim, reclaimed}
 use Rattle.laws.specs.Cells.{length-tabulate, getD-tabulate, sets-tells, replicate-at}
 use Rattle.laws.specs.Device.{Sound}
-use Rattle.laws.specs.Placed.{length-targets, targets-open, puts-all}
+use Rattle.laws.specs.Order.{length-targets, targets-open, puts-all}
 use Rattle.laws.specs.Lines.{trimmed-lines}
 use Rattle.laws.specs.Reclaimed.{victim-chosen, re-lines}
 use Rattle.demands.specs.Flash.{Cell, value, Seen, hole, cell, contents}

@@ -24,7 +24,8 @@ use Rattle.laws.specs.Bools.{cases, and-split}
 use Rattle.laws.specs.Sums.{count-within}
 use Rattle.laws.specs.Cells.{sets-other}
 use Rattle.laws.specs.Sane.{Good}
-use Rattle.laws.specs.Placed.{puts-table, puts-pages, puts-all, length-targets, length-places}
+use Rattle.laws.specs.Placed.{puts-table, puts-pages, length-places}
+use Rattle.laws.specs.Order.{puts-all, length-targets}
 use Rattle.laws.specs.Lines.{trimmed-lines, trimmed-other}
 use Rattle.laws.specs.Reclaimed.{reclaim-all}
 use Rattle.laws.specs.States.{device-lines, device-blocks, words-device, words-valid}

@@ -18,7 +18,8 @@ use Rattle.rules.specs.Reclaim.{victim, reclaimed}
 use Rattle.rules.specs.Answers.{Outcome}
 use Rattle.rules.specs.Calls.{Call, refusal, counts, leaves, lists, buffer, accepted, encoded, call}
 use Rattle.rules.specs.declared.Last.{Last}
-use Rattle.laws.specs.Placed.{puts-slots, length-placed}
+use Rattle.laws.specs.Placed.{puts-slots}
+use Rattle.laws.specs.Order.{length-placed}
 use Rattle.laws.specs.Reclaimed.{staleBlocks, few-sources, victim-chosen, reclaim-all}
 use Rattle.demands.specs.Settle.{settle, settle-done, settle-more, Settled, settle-ends, stale-blocks-lt, never-stuck}
 use Rattle.demands.specs.Flash.{Cell, Seen, hole}

@@ -1,6 +1,6 @@
 -- Placement reads no line of the table: devices that are alike but for their tables place alike. So a write may cut its range out first.
-use Prim.Native.Nat.{ℕ, zero, suc, _+_, _-_, _/_, _≤_, _<_}
-use mathlib.Core.Path.{_≡_, refl, sym, ap, ap₂, _∙_}
+use Prim.Native.Nat.{ℕ, suc, _+_, _-_, _/_, _≤_, _<_}
+use mathlib.Core.Path.{_≡_, refl, sym, ap, ap₂, _∙_, subst}
 use mathlib.Core.List.{List, [], _∷_}
 use native.Mathlib.Omega.{arith}
 use borrow.Author.Tests.{ne-eqb}
@@ -10,15 +10,15 @@ use lib.Seq.{sets, length-sets, set-set, set-comm}
 use Rattle.rules.specs.Counting.{count}
 use Rattle.rules.specs.Extents.{none, runs}
 use Rattle.rules.specs.Device.{Device, blocks, lines, at, room, free, valid, mapped}
-use Rattle.rules.specs.Placement.{putAt, putsAt, placesAt, target, targets, puts, places, pieces}
+use Rattle.rules.specs.Placement.{putAt, putsAt, placesAt, targets, puts, places, pieces}
 use Rattle.rules.specs.Request.{withTable, trimmed}
 use Rattle.laws.specs.Sums.{count-none}
 use Rattle.laws.specs.Device.{Sound, none-block}
 use Rattle.laws.specs.Balance
 use Rattle.laws.specs.Lines.{trimmed-sound, trimmed-in}
-use Rattle.laws.specs.Placed.{puts-table, length-targets, length-placed, targets-open}
+use Rattle.laws.specs.Placed.{puts-table}
+use Rattle.laws.specs.Order.{length-targets, length-placed, targets-open, targets-same}
 use Rattle.laws.specs.Valid.{puts-valid}
-use Rattle.laws.specs.Spread.{taken, openPage, next}
 
 -- ---- placement reads no line of the table
 
@@ -33,37 +33,36 @@ module _ (d e : Device) (a : Alike d e) where
   unfolding free room
   alike-free = rw (a .pages, a .fills, a .reserve)
 
-  alike-target : target d ≡ target e
-  unfolding target
-  alike-target = rw (a .pages, a .fills, a .reserve)
-
-  alike-page : openPage d ≡ openPage e
-  alike-page = rw (alike-target, a .pages, a .fills)
-
-  alike-next : (l : ℕ) → Alike (next l d) (next l e)
+  alike-put : (b l : ℕ) → Alike (putAt b l d) (putAt b l e)
   unfolding putAt
-  alike-next l = record {
+  alike-put b l = record {
     pages = a .pages;
-    fills = rw (alike-target, a .fills);
-    spare = ap₂ (λ (s : List ℕ) (p : ℕ). set s p l) (a .spare) alike-page;
+    fills = rw (a .fills);
+    spare = rw (a .spare, a .pages, a .fills);
     reserve = a .reserve;
   }
 
-pub alike-targets : (l n : ℕ) (d e : Device) → Alike d e → targets l n d ≡ targets l n e
-unfolding targets
-alike-targets l zero d e a = refl
-alike-targets l (suc n) d e a = ap₂ (λ (b : ℕ) (r : List ℕ). b ∷ r) (alike-target d e a) (alike-targets (suc l) n (next l d) (next l e) (alike-next d e a l))
+  pub alike-targets : (l n : ℕ) → targets l n d ≡ targets l n e
+  alike-targets l n = targets-same l n d e (a .pages) (a .fills) (a .reserve)
+
+alike-places-at : (l : ℕ) (bs : List ℕ) (d e : Device) → Alike d e → placesAt l bs d ≡ placesAt l bs e
+unfolding placesAt
+alike-places-at l [] d e a = refl
+alike-places-at l (b ∷ bs) d e a =
+    ap₂ (λ (p : ℕ) (r : List ℕ). p ∷ r) (rw (a .pages, a .fills)) (alike-places-at (suc l) bs (putAt b l d) (putAt b l e) (alike-put d e a b l))
+
+alike-puts-at : (l : ℕ) (bs : List ℕ) (d e : Device) → Alike d e → Alike (putsAt l bs d) (putsAt l bs e)
+unfolding putsAt
+alike-puts-at l [] d e a = a
+alike-puts-at l (b ∷ bs) d e a = alike-puts-at (suc l) bs (putAt b l d) (putAt b l e) (alike-put d e a b l)
 
 pub alike-places : (l n : ℕ) (d e : Device) → Alike d e → places l n d ≡ places l n e
-unfolding places placesAt targets
-alike-places l zero d e a = refl
-alike-places l (suc n) d e a =
-    ap₂ (λ (p : ℕ) (r : List ℕ). p ∷ r) (alike-page d e a) (alike-places (suc l) n (next l d) (next l e) (alike-next d e a l))
+unfolding places
+alike-places l n d e a = ap (λ (bs : List ℕ). placesAt l bs d) (alike-targets d e a l n) ∙ alike-places-at l (targets l n e) d e a
 
 pub alike-puts : (l n : ℕ) (d e : Device) → Alike d e → Alike (puts l n d) (puts l n e)
-unfolding puts putsAt targets
-alike-puts l zero d e a = a
-alike-puts l (suc n) d e a = alike-puts (suc l) n (next l d) (next l e) (alike-next d e a l)
+unfolding puts
+alike-puts l n d e a = subst (λ (bs : List ℕ). Alike (putsAt l bs d) (putsAt l (targets l n e) e)) (sym (alike-targets d e a l n)) (alike-puts-at l (targets l n e) d e a)
 
 pub alike-pieces : (l n : ℕ) (d e : Device) → Alike d e → pieces l n d ≡ pieces l n e
 unfolding pieces
@@ -121,5 +120,5 @@ module _ (k l n : ℕ) (d : Device) where
             ne-eqb (at t (l + i) / d .pages) c (λ e. none-block d s c z
             (sym (ap (λ (x : ℕ). x / d .pages) (trimmed-in k l n d h (l + i) (omega arith) (omega arith))) ∙ e))),
         ap (λ (x : ℕ). count x (λ i. eqb (getD bs i 0) c)) m,
-        ap (λ (x : List ℕ). count n (λ i. eqb (getD x i 0) c)) (alike-targets l n t d trimmed-alike),
+        ap (λ (x : List ℕ). count n (λ i. eqb (getD x i 0) c)) (alike-targets t d trimmed-alike l n),
       )

@@ -10,11 +10,12 @@ use lib.ListN.{length, getD}
 use native.Mathlib.Nat.{suc-mul, mul-mod-left}
 use Rattle.rules.specs.Extents.{none, extent, runs}
 use Rattle.rules.specs.Device.{Device, blocks, lines, at, fill, free, extents}
-use Rattle.rules.specs.Placement.{putAt, putsAt, placesAt, target, targets, puts, places, pieces}
+use Rattle.rules.specs.Placement.{putAt, putsAt, placesAt, targets, puts, places, pieces}
 use Rattle.rules.specs.Request.{withTable, trimmed}
-use Rattle.laws.specs.Counts.{startsBefore, endsAfter, leftJoin, trim-count, write-count, cut-bound, place-bound}
+use Rattle.laws.specs.Counts.{Begins, runs-first, startsBefore, endsAfter, leftJoin, trim-count, write-count, cut-bound, place-bound}
 use Rattle.laws.specs.Device.{Sound, same-block, same-offset, page-lt, offset-lt}
-use Rattle.laws.specs.Placed.{Open, Opens, put-pages, put-fill, put-fill-other, put-one, puts-table, puts-pages, length-places, places-lt, places-small, length-targets, targets-open, puts-all}
+use Rattle.laws.specs.Placed.{Open, Opens, put-pages, put-fill, put-fill-other, put-one, puts-table, puts-pages, length-places, places-lt, places-small}
+use Rattle.laws.specs.Order.{length-targets, length-placed, targets-open, puts-all}
 use Rattle.laws.specs.Lines.{trimmed-lines}
 use Rattle.laws.specs.States.{table-lines}
 use Rattle.laws.specs.Runs.{runs-length}
@@ -84,12 +85,17 @@ module _ (d : Device) (s : Sound d) (p : ℕ) (w : New d p) (l : ℕ) where
 
 -- ---- the write
 
--- lines l, l + 1, .. into the blocks b, bs, each open when its page comes
-pub puts-grow : (l b : ℕ) (bs : List ℕ) (d : Device) → Sound d → Opens l (b ∷ bs) d → l + length (b ∷ bs) ≤ lines d
-    → length (extents (putsAt l (b ∷ bs) d)) + leftJoin (d .pages) (extent l (b * d .pages + fill d b) 1) (extents d)
-    ≡ startsBefore l (extents d) + endsAfter (l + length (b ∷ bs)) (extents d) + length (runs (d .pages) l (placesAt l (b ∷ bs) d))
+-- the first page that a write of n pages from line l on takes
+abbrev pub firstPlace : ℕ → ℕ → Device → ℕ
+firstPlace l n d = getD (places l n d) 0 none
+
+-- lines l, l + 1, .. into some blocks, each open when its page comes
+pub puts-grow : (l : ℕ) (bs : List ℕ) (d : Device) → Sound d → Opens l bs d → 0 < length bs → l + length bs ≤ lines d
+    → length (extents (putsAt l bs d)) + leftJoin (d .pages) (extent l (getD (placesAt l bs d) 0 none) 1) (extents d)
+    ≡ startsBefore l (extents d) + endsAfter (l + length bs) (extents d) + length (runs (d .pages) l (placesAt l bs d))
 unfolding extents placesAt
-puts-grow l b bs d s v h =
+puts-grow l [] d s v z h = absurd (omega arith)
+puts-grow l (b ∷ bs) d s v z h =
     let first = b * d .pages + fill d b in
     let rest = placesAt (suc l) bs (putAt b l d) in
     let size : length rest ≡ length bs = length-places (suc l) bs (putAt b l d) in
@@ -118,6 +124,24 @@ module _ (l n : ℕ) (d : Device) (s : Sound d) (f : n ≤ free d) (h : l + n �
   opens : Opens l (targets l n d) d
   opens = targets-open l n d s f h
 
+  -- each of its pages is a new one
+  pub place-new : (i : ℕ) → i < n → New d (getD (places l n d) i none)
+  unfolding places
+  place-new i t = let m = length-targets l n d in places-new l (targets l n d) d s opens (omega (arith, m)) i (omega (arith, m))
+
+  pub place-some : (i : ℕ) → i < n → getD (places l n d) i none ≡ none → ⊥
+  unfolding places
+  place-some i t e = let m = length-targets l n d in omega (arith, places-lt l (targets l n d) d s opens (omega (arith, m)) i (omega (arith, m)), e)
+
+  -- its first piece begins at line l, at the first page
+  pub pieces-begin : 0 < n → Begins l (firstPlace l n d) (pieces l n d)
+  unfolding pieces
+  pieces-begin z = go (places l n d) refl
+    where
+      go : (ps : List ℕ) → places l n d ≡ ps → Begins l (getD ps 0 none) (runs (d .pages) l ps)
+      go [] e = absurd (omega (arith, ap length e, length-placed l n d))
+      go (p ∷ ps) e = runs-first (d .pages) l p ps (λ g. place-some 0 z (ap (λ (xs : List ℕ). getD xs 0 none) e ∙ g))
+
   -- at most n + 1 more
   pub write-bound : length (extents (puts l n d)) ≤ length (extents d) + n + 1
   unfolding puts
@@ -127,17 +151,14 @@ module _ (l n : ℕ) (d : Device) (s : Sound d) (f : n ≤ free d) (h : l + n �
   pub write-lines : length (extents (puts l n d)) ≤ lines d
   write-lines = omega (arith, extents-lines (puts l n d), puts-all l n d s f h .lines)
 
--- a write of n pages from line l on: the first of them goes to the fill of the first target
+-- a write of n pages from line l on
 pub write-grows : (l n : ℕ) (d : Device) → Sound d → 0 < n → n ≤ free d → l + n ≤ lines d
-    → length (extents (puts l n d)) + leftJoin (d .pages) (extent l (target d * d .pages + fill d (target d)) 1) (extents d)
+    → length (extents (puts l n d)) + leftJoin (d .pages) (extent l (firstPlace l n d) 1) (extents d)
     ≡ startsBefore l (extents d) + endsAfter (l + n) (extents d) + length (pieces l n d)
-unfolding puts pieces places targets
-write-grows l zero d s z f h = absurd (omega arith)
-write-grows l (suc n) d s z f h =
-    let bs = targets (suc l) n (putAt (target d) l d) in
-    let t : length bs ≡ n = length-targets (suc l) n (putAt (target d) l d) in
-    let v : Opens l (target d ∷ bs) d = targets-open l (suc n) d s f h in
-    rw t at (puts-grow l (target d) bs d s v (omega arith))
+unfolding puts pieces places
+write-grows l n d s z f h =
+    let t = length-targets l n d in
+    rw t at (puts-grow l (targets l n d) d s (targets-open l n d s f h) (omega (arith, t)) (omega (arith, t)))
 
 -- ---- the trim
 
@@ -145,10 +166,6 @@ module _ (k l n : ℕ) (d : Device) (s : Sound d) (z : 0 < n) (h : l + n ≤ lin
   pub trim-grows : length (extents (trimmed k l n d)) ≡ startsBefore l (extents d) + endsAfter (l + n) (extents d)
   unfolding extents trimmed withTable
   trim-grows = trim-count (d .pages) (s .some) l n (d .table) z h (table-lines d s)
-
-  -- at most one more
-  pub trim-bound : length (extents (trimmed k l n d)) ≤ length (extents d) + 1
-  trim-bound = omega (arith, ap length (trim-extents k l n d s z h), cut-bound l (l + n) (extents d) (omega arith))
 
   pub trim-lines : length (extents (trimmed k l n d)) ≤ lines d
   trim-lines = omega (arith, extents-lines (trimmed k l n d), trimmed-lines k l n d)

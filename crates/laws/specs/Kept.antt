@@ -22,7 +22,8 @@ use Rattle.rules.specs.Calls.{Call, outside, tooMany, writeRefusal, trimRefusal
 use Rattle.rules.specs.declared.Refusal.{Refusal}
 use Rattle.laws.specs.Bools.{or-split}
 use Rattle.laws.specs.Device.{Sound}
-use Rattle.laws.specs.Placed.{puts-pages, puts-slots, puts-all}
+use Rattle.laws.specs.Placed.{puts-pages, puts-slots}
+use Rattle.laws.specs.Order.{puts-all}
 use Rattle.laws.specs.Lines.{written-sound, trimmed-lines, trimmed-sound}
 use Rattle.laws.specs.Reclaimed.{reclaim-all}
 use Rattle.laws.specs.Encoded.{reclaim-shrinks}

@@ -16,6 +16,8 @@ pub mod Device
 pub mod Live
 pub mod Balance
 pub mod Placed
+pub mod Spread
+pub mod Order
 pub mod Lines
 pub mod Reclaimed
 pub mod Valid
@@ -32,5 +34,4 @@ pub mod Calls
 pub mod Encoded
 pub mod Kept
 pub mod Growth
-pub mod Spread
 pub mod Alike

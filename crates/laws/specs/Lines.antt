@@ -17,7 +17,7 @@ use Rattle.rules.specs.Request.{withTable, numbered, written, trimmed}
 use Rattle.laws.specs.Cells.{sets-in, sets-other, replicate-at, count-wiped}
 use Rattle.laws.specs.Device.{Sound}
 use Rattle.laws.specs.Balance.{balance}
-use Rattle.laws.specs.Placed.{puts-all}
+use Rattle.laws.specs.Order.{puts-all}
 
 -- lines may become holes
 pub fewer-sound : (t : List ℕ) (k : ℕ) (d : Device) → Sound d → length t ≡ lines d → ((l : ℕ) → (getD t l none ≡ none → ⊥) → getD t l none ≡ at d l) → Sound (withTable t k d)

@@ -45,6 +45,21 @@ first-found n t i s e =
     (λ h. h)
     (λ h. absurd (false≢true (sym (first-least n t i (omega arith)) ∙ e)))
 
+-- the first that passes, where those before it do not
+pub first-is : (n : ℕ) (t : ℕ → Bool) (i : ℕ) → i < n → t i ≡ true → ((j : ℕ) → j < i → t j ≡ false) → first n t ≡ i
+first-is n t i s e h =
+    let f = first-found n t i s e in
+    by-cases (decLt (first n t) i)
+    (λ a. absurd (false≢true (sym (h (first n t) a) ∙ first-passes n t f)))
+    (λ a. by-cases (decLt i (first n t)) (λ b. absurd (false≢true (sym (first-least n t i b) ∙ e))) (λ b. omega arith))
+
+-- none passes
+pub first-none : (n : ℕ) (t : ℕ → Bool) → ((j : ℕ) → j < n → t j ≡ false) → first n t ≡ n
+first-none n t h =
+    by-cases (decLt (first n t) n)
+    (λ a. absurd (false≢true (sym (h (first n t) a) ∙ first-passes n t a)))
+    (λ a. omega (arith, first-le n t))
+
 -- ---- the one with the greatest value, the lowest of these
 
 pub most-lt : (n : ℕ) (f : ℕ → ℕ) → 0 < n → most n f < n

@@ -1,22 +1,21 @@
--- Pages put one at a time, each into a block that is open when its page comes. 01's order is one such choice.
+-- Pages put one at a time, each into a block that is open when its page comes. Which blocks these are is not known here.
 use Prim.Native.Nat.{ℕ, zero, suc, _+_, _*_, _/_, _≤_, _<_}
-use mathlib.Core.Path.{_≡_, refl, sym, ap, _∙_, subst}
+use mathlib.Core.Path.{_≡_, refl, sym, ap, _∙_}
 use mathlib.Core.List.{List, [], _∷_}
-use mathlib.Core.Bool.{Bool, not, _&&_}
+use mathlib.Core.Bool.{Bool, not}
 use mathlib.Core.Logic.{by-cases}
 use native.Mathlib.Omega.{arith}
 use native.Mathlib.Decide.{decLt, ℕ-discrete}
-use borrow.Author.Tests.{eq-eqb, ne-eqb, lt-ltb, le-ltb, ltb-true, ltb-false}
+use borrow.Author.Tests.{ne-eqb}
 use lib.Arith.{digits-lt, digits-div}
-use lib.Dec.{eqb, ltb}
+use lib.Dec.{eqb}
 use lib.ListN.{length, getD, set, replicate, length-set, List·getD-eq-default}
 use lib.Seq.{sets, getD-set-same, getD-set-other}
-use Rattle.rules.specs.Counting.{count, first}
+use Rattle.rules.specs.Counting.{count}
 use Rattle.rules.specs.Extents.{none}
 use Rattle.rules.specs.Device.{Device, blocks, lines, at, fill, label, room, mapped, live, free}
-use Rattle.rules.specs.Placement.{putAt, putsAt, placesAt, target, targets, puts, places}
-use Rattle.laws.specs.Sums.{sum-change, sum-zero, count-all}
-use Rattle.laws.specs.Picks.{first-passes, first-least, first-found}
+use Rattle.rules.specs.Placement.{putAt, putsAt, placesAt}
+use Rattle.laws.specs.Sums.{sum-change, count-all}
 use Rattle.laws.specs.Cells.{count-sets}
 use Rattle.laws.specs.Device.{Home, Sound, Blank, same-block, same-offset, page-lt, offset-lt}
 use Rattle.laws.specs.Balance.{room-other, room-reserve}
@@ -29,43 +28,10 @@ pub record Open (d : Device) (b : ℕ) : Type 0 where
   pub other : b ≡ d .reserve → ⊥
   pub below : fill d b < d .pages
 
--- 01's test of a block
-abbrev takes : Device → ℕ → Bool
-takes d b = not (eqb b (d .reserve)) && ltb (fill d b) (d .pages)
-
-takes-room : (d : Device) (b : ℕ) → takes d b ≡ ltb 0 (room d b)
-takes-room d b =
-    by-cases (ℕ-discrete b (d .reserve))
-    (λ e. rw (eq-eqb b (d .reserve) e) (sym (le-ltb 0 (room d b) (omega (arith, ap (room d) e, room-reserve d)))))
-    (λ e. let r = room-other d b e in
-    rw (ne-eqb b (d .reserve) e) (by-cases (decLt (fill d b) (d .pages))
-    (λ f. lt-ltb (fill d b) (d .pages) f ∙ sym (lt-ltb 0 (room d b) (omega arith)))
-    (λ f. le-ltb (fill d b) (d .pages) (omega arith) ∙ sym (le-ltb 0 (room d b) (omega arith)))))
-
 pub room-open : (d : Device) (b : ℕ) → b < blocks d → 0 < room d b → Open d b
 room-open d b h r =
     let other : b ≡ d .reserve → ⊥ = λ e. omega (arith, room-reserve d, ap (room d) e) in
     record { inside = h; other = other; below = omega (arith, room-other d b other) }
-
-pub target-open : (d : Device) → 0 < free d → Open d (target d)
-unfolding target free
-target-open d h =
-    let b = first (blocks d) (takes d) in
-    by-cases (decLt b (blocks d))
-    (λ f. room-open d b f (ltb-true 0 (room d b) (sym (takes-room d b) ∙ first-passes (blocks d) (takes d) f)))
-    (λ f. absurd (omega (
-      arith,
-      sum-zero (blocks d) (room d) (λ c t.
-          by-cases (decLt 0 (room d c))
-          (λ g. absurd (f (first-found (blocks d) (takes d) c t (takes-room d c ∙ lt-ltb 0 (room d c) g))))
-          (λ g. omega arith)),
-    )))
-
--- the blocks before it have no room
-pub target-lowest : (d : Device) (b : ℕ) → b < target d → room d b ≡ 0
-unfolding target
-target-lowest d b h =
-    omega (arith, ltb-false 0 (room d b) (sym (takes-room d b) ∙ first-least (blocks d) (takes d) b h))
 
 -- ---- one page
 
@@ -233,11 +199,6 @@ unfolding putsAt putAt
 puts-reserve l [] d = refl
 puts-reserve l (b ∷ bs) d = puts-reserve (suc l) bs (putAt b l d)
 
-pub puts-last : (l : ℕ) (bs : List ℕ) (d : Device) → putsAt l bs d .last ≡ d .last
-unfolding putsAt putAt
-puts-last l [] d = refl
-puts-last l (b ∷ bs) d = puts-last (suc l) bs (putAt b l d)
-
 pub length-places : (l : ℕ) (bs : List ℕ) (d : Device) → length (placesAt l bs d) ≡ length bs
 unfolding placesAt
 length-places l [] d = refl
@@ -303,29 +264,3 @@ block-open b l (suc n) d s h r f =
     let v = room-open d b h (omega arith) in
     let a : l < lines d = omega arith in
     (v, block-open b (suc l) n (putAt b l d) (put-sound d s b v l a) (omega (arith, put-blocks d s b v l a)) (omega (arith, put-room d s b v l a)) (omega (arith, put-lines d s b v l a)))
-
--- ---- in 01's order
-
-pub length-targets : (l n : ℕ) (d : Device) → length (targets l n d) ≡ n
-unfolding targets
-length-targets l zero d = refl
-length-targets l (suc n) d = ap suc (length-targets (suc l) n (putAt (target d) l d))
-
--- while pages are free there is an open block
-pub targets-open : (l n : ℕ) (d : Device) → Sound d → n ≤ free d → l + n ≤ lines d → Opens l (targets l n d) d
-unfolding targets
-targets-open l zero d s f h = tt
-targets-open l (suc n) d s f h =
-    let v = target-open d (omega arith) in
-    let p = put-one (target d) l d s v (omega arith) in
-    (v, targets-open (suc l) n (putAt (target d) l d) (p .sound) (omega (arith, p .free)) (omega (arith, p .lines)))
-
-pub length-placed : (l n : ℕ) (d : Device) → length (places l n d) ≡ n
-unfolding places
-length-placed l n d = length-places l (targets l n d) d ∙ length-targets l n d
-
-pub puts-all : (l n : ℕ) (d : Device) → Sound d → n ≤ free d → l + n ≤ lines d → Puts d (puts l n d) n
-unfolding puts
-puts-all l n d s f h =
-    let m = length-targets l n d in
-    subst (Puts d (putsAt l (targets l n d) d)) m (puts-sound l (targets l n d) d s (targets-open l n d s f h) (omega arith))

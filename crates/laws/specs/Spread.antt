@@ -1,28 +1,24 @@
--- Placement block by block: each block in turn takes what it has room for, and this gives what 01's page by page gives.
--- Placement reads the fills, the reserve and N, and nothing else.
+-- Pages spread over blocks: each block in turn takes what it has room for, the reserve none. The pieces, the fills and the labels that this gives, and
+-- what one page more changes in them. By fills, the reserve and N alone; that the order of placement gives the same is shown in Order.
 use Prim.Native.Nat.{ℕ, zero, suc, _+_, _-_, _*_, _/_, _≤_, _<_, min}
 use mathlib.Core.Path.{_≡_, refl, sym, ap, ap₂, _∙_}
 use mathlib.Core.List.{List, [], _∷_}
 use mathlib.Core.Bool.{cond}
 use mathlib.Core.Logic.{by-cases}
 use native.Mathlib.Omega.{arith}
-use native.Mathlib.Decide.{decLt, ℕ-discrete}
+use native.Mathlib.Decide.{decLt}
 use borrow.Author.Tests.{eq-eqb, ne-eqb}
-use lib.Arith.{digits-lt, digits-div}
-use lib.Dec.{eqb}
-use lib.ListN.{length, getD, set, length-set}
-use lib.Seq.{sets, getD-set-same, getD-set-other}
-use Rattle.rules.specs.Counting.{one, count, tabulate}
-use Rattle.rules.specs.Extents.{none, extent, joinable, join, runs}
-use Rattle.rules.specs.Device.{Device, blocks, lines, fill, room, free}
-use Rattle.rules.specs.Placement.{putAt, putsAt, placesAt, target, targets, puts, places, pieces}
+use lib.Arith.{digits-div}
+use lib.Dec.{eqb, ltb}
+use lib.ListN.{length, getD, set}
+use lib.Seq.{sets}
+use Rattle.rules.specs.Counting.{first, tabulate}
+use Rattle.rules.specs.Extents.{none, extent, joinable, join}
+use Rattle.rules.specs.Device.{blocks, lines, fill, room}
+use Rattle.rules.specs.Placement.{pieces}
 use Rattle.rules.specs.declared.Extent.{Extent}
 use Rattle.laws.specs.Bools.{cases, never}
-use Rattle.laws.specs.Sums.{sum-change, count-first}
-use Rattle.laws.specs.Runs.{Joined, joinable-true, joined-true, join-joined, join-apart, runs-page}
-use Rattle.laws.specs.Balance
-use Rattle.laws.specs.Placed.{Open, target-open, target-lowest, length-targets}
-use Rattle.laws.specs.Counts.{runs-first}
+use Rattle.laws.specs.Runs.{Joined, joinable-true, joined-true, join-joined, join-apart}
 
 -- ---- what a block takes
 
@@ -32,6 +28,10 @@ roomAt n reserve b f = cond (eqb b reserve) 0 (n - f)
 
 unfoldable pub taken : ℕ → ℕ → ℕ → ℕ → ℕ → ℕ
 taken n reserve b f want = min (roomAt n reserve b f) want
+
+-- the block that `want` pages start with: the first that takes some of them, or the number of blocks where none does
+unfoldable pub startOf : ℕ → ℕ → List ℕ → ℕ → ℕ
+startOf n reserve fs want = first (length fs) (λ b. ltb 0 (taken n reserve b (getD fs b 0) want))
 
 -- an extent in front of others; of no pages it is none
 unfoldable pub listed : Extent → List Extent → List Extent
@@ -103,6 +103,11 @@ module _ (n reserve b f want : ℕ) where
   pub taken-all : (b ≡ reserve → ⊥) → want ≤ n - f → taken n reserve b f want ≡ want
   unfolding taken
   taken-all e h = omega (arith, room-other n reserve b f e)
+
+  -- a block that is open takes some
+  pub taken-open : (b ≡ reserve → ⊥) → f < n → 0 < want → 0 < taken n reserve b f want
+  unfolding taken
+  taken-open e h k = omega (arith, room-other n reserve b f e)
 
   -- a block without room for one page takes none of any number, and one with room takes some
   pub taken-none : taken n reserve b f 1 ≡ 0 → taken n reserve b f want ≡ 0
@@ -221,7 +226,7 @@ step-here n reserve f fs b l w h =
     ∙ sym (ap (join n page) (spread-skip n reserve (suc f) fs b (suc l) w (omega arith))
     ∙ spread-apart n reserve fs (b + 1) (suc l) w page (omega arith)))
 
-spread-step : (n reserve : ℕ) (fs : List ℕ) (b k l w p : ℕ) → Leads n reserve fs b k → p ≡ (b + k) * n + getD fs k 0
+pub spread-step : (n reserve : ℕ) (fs : List ℕ) (b k l w p : ℕ) → Leads n reserve fs b k → p ≡ (b + k) * n + getD fs k 0
     → spread n reserve fs b l (suc w) ≡ join n (extent l p 1) (spread n reserve (set fs k (suc (getD fs k 0))) b (suc l) w)
 spread-step n reserve [] b k l w p v e = absurd (omega (arith, v .inside))
 spread-step n reserve (f ∷ fs) b zero l w p v e =
@@ -244,7 +249,7 @@ filled-skip n reserve f fs b want e =
     let q : want - m ≡ want = omega arith in
     ap₂ (λ (x y : ℕ). x ∷ filled n reserve fs (b + 1) y) p q
 
-filled-step : (n reserve : ℕ) (fs : List ℕ) (b k w : ℕ) → Leads n reserve fs b k → filled n reserve fs b (suc w) ≡ filled n reserve (set fs k (suc (getD fs k 0))) b w
+pub filled-step : (n reserve : ℕ) (fs : List ℕ) (b k w : ℕ) → Leads n reserve fs b k → filled n reserve fs b (suc w) ≡ filled n reserve (set fs k (suc (getD fs k 0))) b w
 unfolding filled
 filled-step n reserve [] b k w v = refl
 filled-step n reserve (f ∷ fs) b zero w v =
@@ -271,103 +276,6 @@ filled-none n reserve [] b = refl
 filled-none n reserve (f ∷ fs) b =
     filled-skip n reserve f fs b 0 (omega (arith, taken-le n reserve b f 0)) ∙ ap (λ (r : List ℕ). f ∷ r) (filled-none n reserve fs (b + 1))
 
--- ---- a device
-
-room-at : (d : Device) (b : ℕ) → roomAt (d .pages) (d .reserve) b (fill d b) ≡ room d b
-unfolding roomAt room
-room-at d b = refl
-
--- 01's choice of the next block
-target-leads : (d : Device) → 0 < free d → Leads (d .pages) (d .reserve) (d .fills) 0 (target d)
-target-leads d h =
-    let t = target d in
-    let v = target-open d h in
-    let z : 0 + t ≡ t = omega arith in
-    record {
-      inside = v .inside;
-      before = λ j a. let e : 0 + j ≡ j = omega arith in
-          ap (λ (x : ℕ). roomAt (d .pages) (d .reserve) x (fill d j)) e ∙ room-at d j ∙ target-lowest d j a;
-      some = omega (arith, ap (λ (x : ℕ). roomAt (d .pages) (d .reserve) x (fill d t)) z, room-at d t, Balance.room-other d t (v .other), v .below);
-    }
-
--- the page that is taken first, and the device with it taken
-abbrev pub openPage : Device → ℕ
-openPage d = target d * d .pages + fill d (target d)
-
-abbrev pub next : ℕ → Device → Device
-next l d = putAt (target d) l d
-
-put-blocks : (b l : ℕ) (d : Device) → blocks (putAt b l d) ≡ blocks d
-unfolding putAt
-put-blocks b l d = length-set (d .fills) b (suc (fill d b))
-
-open-free : (d : Device) (b l : ℕ) → Open d b → free (putAt b l d) + 1 ≡ free d
-unfolding free putAt
-open-free d b l v =
-    let e = putAt b l d in
-    let same = getD-set-same (d .fills) b (suc (fill d b)) 0 (v .inside) in
-    let here : room e b + 1 ≡ room d b = omega (arith, Balance.room-other e b (v .other), Balance.room-other d b (v .other), v .below) in
-    rw (length-set (d .fills) b (suc (fill d b))) (omega (
-      arith,
-      here,
-      sum-change (blocks d) (room e) (room d) b (v .inside) (λ c h f.
-          sym (room-at e c) ∙ ap (roomAt (d .pages) (d .reserve) c) (getD-set-other (d .fills) b c (suc (fill d b)) 0 f) ∙ room-at d c),
-    ))
-
-module _ (d : Device) (words : blocks d * d .pages ≤ none) where
-  page-some : 0 < free d → openPage d ≡ none → ⊥
-  page-some h e =
-      let v = target-open d h in
-      omega (arith, digits-lt {q = target d} {m = blocks d} {r = fill d (target d)} {c = d .pages} (v .inside) (v .below))
-
-  next-words : (l : ℕ) → blocks (next l d) * next l d .pages ≤ none
-  unfolding putAt
-  next-words l = rw (length-set (d .fills) (target d) (suc (fill d (target d)))) words
-
--- ---- page by page is block by block
-
-pub places-first : (l n : ℕ) (d : Device) → places l (suc n) d ≡ openPage d ∷ places (suc l) n (next l d)
-unfolding places placesAt targets
-places-first l n d = refl
-
-pieces-first : (l n : ℕ) (d : Device) → pieces l (suc n) d ≡ runs (d .pages) l (openPage d ∷ places (suc l) n (next l d))
-unfolding pieces
-pieces-first l n d = ap (runs (d .pages) l) (places-first l n d)
-
-pieces-step : (l n : ℕ) (d : Device) → blocks d * d .pages ≤ none → 0 < free d → pieces l (suc n) d ≡ join (d .pages) (extent l (openPage d) 1) (pieces (suc l) n (next l d))
-unfolding pieces putAt
-pieces-step l n d w h =
-    pieces-first l n d ∙ runs-page (d .pages) l (openPage d) (places (suc l) n (next l d)) (page-some d w h)
-
-pub spread-pieces : (n l : ℕ) (d : Device) → blocks d * d .pages ≤ none → n ≤ free d → spread (d .pages) (d .reserve) (d .fills) 0 l n ≡ pieces l n d
-unfolding pieces places placesAt targets runs putAt
-spread-pieces zero l d w f = spread-none (d .pages) (d .reserve) (d .fills) 0 l
-spread-pieces (suc n) l d w f =
-    let h : 0 < free d = omega arith in
-    let t = target d in
-    let z : 0 + t ≡ t = omega arith in
-    spread-step (d .pages) (d .reserve) (d .fills) 0 t l n (openPage d) (target-leads d h) (sym (ap (λ (x : ℕ). x * d .pages + fill d t) z))
-    ∙ ap (join (d .pages) (extent l (openPage d) 1)) (spread-pieces n (suc l) (next l d) (next-words d w l) (omega (arith, open-free d t l (target-open d h))))
-    ∙ sym (pieces-step l n d w h)
-
-pub puts-filled : (n l : ℕ) (d : Device) → n ≤ free d → puts l n d .fills ≡ filled (d .pages) (d .reserve) (d .fills) 0 n
-unfolding puts putsAt targets putAt
-puts-filled zero l d f = sym (filled-none (d .pages) (d .reserve) (d .fills) 0)
-puts-filled (suc n) l d f =
-    let h : 0 < free d = omega arith in
-    let t = target d in
-    puts-filled n (suc l) (next l d) (omega (arith, open-free d t l (target-open d h)))
-    ∙ sym (filled-step (d .pages) (d .reserve) (d .fills) 0 t n (target-leads d h))
-
--- the first piece begins with the first page
-pub first-page : (n l : ℕ) (d : Device) → blocks d * d .pages ≤ none → 0 < n → n ≤ free d → firstPage (pieces l n d) ≡ getD (places l n d) 0 none
-unfolding firstPage
-first-page zero l d w h f = absurd (omega arith)
-first-page (suc n) l d w h f =
-    let p : 0 < free d = omega arith in
-    let g = runs-first (d .pages) l (openPage d) (places (suc l) n (next l d)) (page-some d w p) in
-    ap firstPage (pieces-first l n d ∙ g .is) ∙ sym (ap (λ (ps : List ℕ). getD ps 0 none) (places-first l n d))
-
 -- ---- labels
 
 pub tabulate-each : (n : ℕ) (f g : ℕ → ℕ) → ((i : ℕ) → f i ≡ g i) → tabulate n f ≡ tabulate n g
@@ -375,7 +283,7 @@ unfolding tabulate
 tabulate-each zero f g h = refl
 tabulate-each (suc n) f g h = ap₂ (λ (x : ℕ) (r : List ℕ). x ∷ r) (h 0) (tabulate-each n (λ i. f (suc i)) (λ i. g (suc i)) (λ i. h (suc i)))
 
-labelled-join : (n l p : ℕ) (es : List Extent) (s : List ℕ) → labelled (join n (extent l p 1) es) s ≡ labelled es (set s p l)
+pub labelled-join : (n l p : ℕ) (es : List Extent) (s : List ℕ) → labelled (join n (extent l p 1) es) s ≡ labelled es (set s p l)
 unfolding labelled join tabulate
 labelled-join n l p [] s = let e : l + 0 ≡ l = omega arith in ap (set s p) e
 labelled-join n l p (x ∷ xs) s =
@@ -391,43 +299,3 @@ labelled-join n l p (x ∷ xs) s =
     ∙ ap₂ (λ (k : ℕ) (r : List ℕ). labelled xs (sets (set s p l) k r)) q
     (tabulate-each (x .count) (λ i. l + suc i) (λ i. x .logical + i) (λ i. omega (arith, j .logical))))
     (λ f. ap (λ (ys : List Extent). labelled ys s) (join-apart n a x xs f) ∙ ap (λ (k : ℕ). labelled (x ∷ xs) (set s p k)) e)
-
-pub puts-labelled : (n l : ℕ) (d : Device) → blocks d * d .pages ≤ none → n ≤ free d → puts l n d .spare ≡ labelled (pieces l n d) (d .spare)
-unfolding puts putsAt targets putAt pieces places placesAt runs labelled
-puts-labelled zero l d w f = refl
-puts-labelled (suc n) l d w f =
-    let h : 0 < free d = omega arith in
-    puts-labelled n (suc l) (next l d) (next-words d w l) (omega (arith, open-free d (target d) l (target-open d h)))
-    ∙ sym (ap (λ (es : List Extent). labelled es (d .spare)) (pieces-step l n d w h)
-    ∙ labelled-join (d .pages) l (openPage d) (pieces (suc l) n (next l d)) (d .spare))
-
--- ---- a fill rises by the pages that its block takes
-
-put-rises : (b l : ℕ) (d : Device) (c : ℕ) → c < blocks d → fill (putAt b l d) c ≡ fill d c + one (eqb b c)
-unfolding putAt
-put-rises b l d c h =
-    by-cases (ℕ-discrete c b)
-    (λ e. omega (
-      arith,
-      ap (λ (x : ℕ). getD (set (d .fills) b (suc (fill d b))) x 0) e,
-      getD-set-same (d .fills) b (suc (fill d b)) 0 (omega arith),
-      ap (fill d) e,
-      ap one (eq-eqb b c (sym e)),
-    ))
-    (λ e. omega (arith, getD-set-other (d .fills) b c (suc (fill d b)) 0 e, ap one (ne-eqb b c (λ g. e (sym g)))))
-
-rises : (l : ℕ) (bs : List ℕ) (d : Device) (c : ℕ) → c < blocks d → fill (putsAt l bs d) c ≡ fill d c + count (length bs) (λ i. eqb (getD bs i 0) c)
-unfolding putsAt count
-rises l [] d c h = omega arith
-rises l (b ∷ bs) d c h =
-    omega (
-      arith,
-      rises (suc l) bs (putAt b l d) c (rw (put-blocks b l d) h),
-      put-rises b l d c h,
-      count-first (length bs) (λ i. eqb (getD (b ∷ bs) i 0) c),
-    )
-
-pub puts-rise : (l n : ℕ) (d : Device) (c : ℕ) → c < blocks d → fill (puts l n d) c ≡ fill d c + count n (λ i. eqb (getD (targets l n d) i 0) c)
-unfolding puts
-puts-rise l n d c h =
-    omega (arith, rises l (targets l n d) d c h, ap (λ (k : ℕ). count k (λ i. eqb (getD (targets l n d) i 0) c)) (length-targets l n d))

@@ -1,6 +1,6 @@
 -- Block records whose fill and valid count rise by what each block takes, block by block.
 use Prim.Native.Nat.{ℕ, zero, suc, _+_, _-_, _*_, _≤_, _<_}
-use mathlib.Core.Path.{_≡_, refl, ap, ap₂, _∙_}
+use mathlib.Core.Path.{_≡_, refl, sym, ap, ap₂, _∙_}
 use mathlib.Core.List.{List, [], _∷_}
 use mathlib.Core.Logic.{by-cases}
 use native.Mathlib.Omega.{arith}
@@ -99,3 +99,21 @@ module _ (n reserve : ℕ) where
   raises-rise (suc k) b want blk h c =
       let m = taken n reserve b (fillWord blk b) want in
       omega (arith, raises-rise k (b + 1) (want - m) (raised m b blk) (omega (arith, raised-length m b blk)) c, raised-rise m b blk (omega arith) c)
+
+  raises-none : (k b want : ℕ) (blk : List ℕ) → taken n reserve b (fillWord blk b) want ≡ 0 → raises n reserve (suc k) b want blk ≡ raises n reserve k (b + 1) want blk
+  unfolding raises
+  raises-none k b want blk e =
+      let m = taken n reserve b (fillWord blk b) want in
+      let w : want - m ≡ want = omega arith in
+      ap₂ (λ (x : ℕ) (ws : List ℕ). raises n reserve k (b + 1) x ws) w (raised-none m b blk e)
+
+  -- blocks that take nothing are passed over
+  pub raises-skipped : (k want blocks : ℕ) (blk : List ℕ) → k ≤ blocks → ((j : ℕ) → j < k → taken n reserve j (fillWord blk j) want ≡ 0)
+      → raises n reserve (blocks - k) k want blk ≡ raises n reserve blocks 0 want blk
+  raises-skipped zero want blocks blk h t = let z : blocks - 0 ≡ blocks = omega arith in ap (λ (m : ℕ). raises n reserve m 0 want blk) z
+  raises-skipped (suc k) want blocks blk h t =
+      let e : suc k ≡ k + 1 = omega arith in
+      let s : blocks - k ≡ suc (blocks - suc k) = omega arith in
+      ap (λ (b : ℕ). raises n reserve (blocks - suc k) b want blk) e
+      ∙ sym (ap (λ (m : ℕ). raises n reserve m k want blk) s ∙ raises-none (blocks - suc k) k want blk (t k (omega arith)))
+      ∙ raises-skipped k want blocks blk (omega arith) (λ j a. t j (omega arith))

@@ -1,10 +1,10 @@
 -- What `place_in` and `place` ask and promise: one block's part of a write, and the whole of it on the device that placement sees.
-use Prim.Native.Nat.{ℕ, suc, _+_, _-_, _*_, _≤_, _<_}
+use Prim.Native.Nat.{ℕ, _+_, _-_, _*_, _≤_, _<_}
 use mathlib.Core.Path.{_≡_, sym, ap, ap₂, _∙_}
 use mathlib.Core.List.{List, [], _∷_, _++_, append-assoc}
 use native.Mathlib.Omega.{arith}
 use lib.Dec.{eqb}
-use lib.ListN.{length, getD, set, take, drop}
+use lib.ListN.{length, getD, take, drop}
 use lib.Seq.{sets, sets-eq, drop-drop}
 use borrow.Rule.Slice.PartMut.{midOf, putMid, mid-len}
 use Rattle.rules.specs.Counting.{count, tabulate}
@@ -16,7 +16,7 @@ use Rattle.rules.specs.Calls.{over}
 use Rattle.rules.specs.declared.Extent.{Extent}
 use Rattle.laws.specs.Cells.{length-tabulate}
 use Rattle.laws.specs.Slots.{put-slot-sets}
-use Rattle.laws.specs.Spread.{listed, listed-none, listed-some}
+use Rattle.laws.specs.Spread.{startOf, listed, listed-none, listed-some}
 use Rattle.laws.specs.Alike.{Alike, alike-targets, alike-puts, alike-pieces}
 use Rattle.placing.specs.Bare.{fillsOf, bare}
 use Rattle.placing.specs.Blocks.{raised, raised-none}
@@ -86,13 +86,14 @@ placed-some blk spare out blk′ ys out′ b n l m k f e s h labels records piec
 -- ---- what it comes to
 
 -- what a write has to bring: free pages, and an answer buffer long enough
-pub record Ready (blocks n reserve l want : ℕ) (blk spare out : List ℕ) : Type 0 where
+pub record Ready (blocks n reserve from l want : ℕ) (blk spare out : List ℕ) : Type 0 where
   pub blk-size : stride * blocks ≤ length blk
   pub spare-size : blocks * n ≤ length spare
   pub blocks-few : blocks ≤ 1024
   pub pages-few : n ≤ 256
   pub valid : (b : ℕ) → b < blocks → validWord blk b ≤ fillWord blk b
   pub lines : l + want ≤ none
+  pub start : from ≡ startOf n reserve (fillsOf blocks blk) want
   pub room : want ≤ free (bare blocks n reserve blk spare)
   pub slots : 3 * length (pieces l want (bare blocks n reserve blk spare)) ≤ length out
 
@@ -114,5 +115,5 @@ placed-alike d e l want blk out blk′ spare′ out′ r a p =
       answer = p .answer ∙ ap (λ (es : List Extent). over (flat es) out) same;
       spare = p .spare ∙ alike-puts l want d e a .spare;
       fills = ap (λ (k : ℕ). fillsOf k blk′) (sym size) ∙ p .fills ∙ alike-puts l want d e a .fills;
-      valid = λ b h. p .valid b (omega arith) ∙ ap (λ (bs : List ℕ). validWord blk b + count want (λ i. eqb (getD bs i 0) b)) (alike-targets l want d e a);
+      valid = λ b h. p .valid b (omega arith) ∙ ap (λ (bs : List ℕ). validWord blk b + count want (λ i. eqb (getD bs i 0) b)) (alike-targets d e a l want);
     }

@@ -10,7 +10,7 @@ use Rattle.rules.specs.Extents.{extent}
 use Rattle.rules.specs.Blocks.{fillWord}
 use Rattle.rules.specs.declared.Extent.{Extent}
 use Rattle.laws.specs.Cells.{block-le}
-use Rattle.laws.specs.Spread.{taken, listed, spread, firstPage, spread-skip, spread-some, spread-length, taken-none, taken-some, tabulate-each}
+use Rattle.laws.specs.Spread.{taken, listed, spread, spread-skip, spread-some, spread-length, tabulate-each}
 use Rattle.placing.specs.Bare.{fillsOf}
 use Rattle.placing.specs.Blocks.{fillsFrom}
 
@@ -70,13 +70,22 @@ module _ (n reserve blocks : ℕ) (blk : List ℕ) where
     unfolding rest spread
     rest-next = ap (λ (fs : List ℕ). spread n reserve fs b l want) fills-next
 
+  -- blocks that take nothing are passed over
+  pub rest-skipped : (k want : ℕ) → k ≤ blocks → ((j : ℕ) → j < k → takes j want ≡ 0) → (l : ℕ) → rest k l want ≡ rest 0 l want
+  rest-skipped zero want h t l = refl
+  rest-skipped (suc k) want h t l =
+      let e : suc k ≡ k + 1 = omega arith in
+      ap (λ (b : ℕ). rest b l want) e ∙ sym (rest-skip k l want (omega arith) (t k (omega arith)))
+      ∙ rest-skipped k want (omega arith) (λ j a. t j (omega arith)) l
+
   -- ---- counted
 
   abbrev pub howMany : ℕ → ℕ → ℕ
   howMany b want = length (rest b 0 want)
 
-  pub many-start : (l want : ℕ) → howMany 0 want ≡ length (spread n reserve (fillsOf blocks blk) 0 l want)
-  many-start l want = ap length (rest-start 0 want) ∙ spread-length n reserve (fillsOf blocks blk) 0 0 l want
+  pub many-lines : (b l want : ℕ) → howMany b want ≡ length (rest b l want)
+  unfolding rest
+  many-lines b l want = spread-length n reserve (fillsFrom (blocks - b) b blk) b 0 l want
 
   pub many-end : (b want : ℕ) → blocks ≤ b → howMany b want ≡ 0
   many-end b want h = ap length (rest-end b 0 want h)
@@ -97,22 +106,3 @@ module _ (n reserve blocks : ℕ) (blk : List ℕ) where
           spread-length n reserve (fillsFrom (blocks - (b + 1)) (b + 1) blk) (b + 1) (0 + k) 0 (want - k),
           ap (λ (x : ℕ). howMany (b + 1) (want - x)) t,
         )
-
-  -- ---- the first
-
-  -- nothing before block b is a piece's
-  abbrev pub Passed : ℕ → Type 0
-  Passed b = (l want : ℕ) → 0 < want → firstPage (rest 0 l want) ≡ firstPage (rest b l want)
-
-  pub passed-next : (b : ℕ) → b < blocks → Passed b → takes b 1 ≡ 0 → Passed (b + 1)
-  passed-next b h p e l want s =
-      p l want s ∙ ap firstPage (rest-skip b l want h (taken-none n reserve b (fillWord blk b) want e))
-
-  pub passed-end : (b : ℕ) → blocks ≤ b → Passed b → (l want : ℕ) → 0 < want → 0 ≡ firstPage (spread n reserve (fillsOf blocks blk) 0 l want)
-  unfolding firstPage
-  passed-end b h p l want s = sym (sym (ap firstPage (rest-start l want)) ∙ p l want s ∙ ap firstPage (rest-end b l want h))
-
-  pub passed-found : (b : ℕ) → b < blocks → Passed b → 0 < takes b 1 → (l want : ℕ) → 0 < want → b * n + fillWord blk b ≡ firstPage (spread n reserve (fillsOf blocks blk) 0 l want)
-  unfolding firstPage
-  passed-found b h p e l want s =
-      sym (sym (ap firstPage (rest-start l want)) ∙ p l want s ∙ ap firstPage (rest-some b l want h (taken-some n reserve b (fillWord blk b) want e s)))

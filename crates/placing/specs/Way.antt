@@ -18,10 +18,12 @@ use Rattle.rules.specs.Calls.{over}
 use Rattle.rules.specs.declared.Extent.{Extent}
 use Rattle.laws.specs.Slots.{flat-length}
 use Rattle.laws.specs.Cells.{block-le, length-tabulate, getD-tabulate}
-use Rattle.laws.specs.Spread.{listed, spread, filled, labelled, listed-none, listed-some, taken-le, taken-room, spread-pieces, puts-filled, puts-labelled, puts-rise}
+use Rattle.laws.specs.Spread.{startOf, listed, spread, filled, labelled, listed-none, listed-some, taken-le, taken-room}
+use Rattle.laws.specs.Order.{spread-pieces, puts-filled, puts-labelled, puts-rise}
 use Rattle.placing.specs.Bare.{fillsOf, bare}
-use Rattle.placing.specs.Blocks.{raised, raises, raised-length, raised-rise, raised-after, raises-fills, raises-rise}
+use Rattle.placing.specs.Blocks.{raised, raises, raised-length, raised-rise, raised-after, raises-fills, raises-rise, raises-skipped}
 use Rattle.placing.specs.Rest.{rest, takes, page-small, fills-all, rest-start, rest-next, rest-end}
+use Rattle.placing.specs.Starts.{start-le, before-start, rest-from}
 use Rattle.placing.specs.Place.{pieceIn, Fits, PlacedIn, Ready, Placed}
 
 -- ---- a piece in front of others
@@ -79,21 +81,24 @@ pub record Placing (n reserve blocks l want : ℕ) (blk₀ spare₀ out₀ blk s
   pub counting : k + length (rest n reserve blocks blk b (l + done) (want - done)) ≡ length (rest n reserve blocks blk₀ 0 l want)
 
 module _ (n reserve blocks l want : ℕ) (blk₀ spare₀ out₀ : List ℕ) where
-  pub placing-start : ((j : ℕ) → j < blocks → validWord blk₀ j ≤ fillWord blk₀ j) → Placing n reserve blocks l want blk₀ spare₀ out₀ blk₀ spare₀ out₀ 0 0 0
-  placing-start v =
+  -- with the block that the write starts with
+  pub placing-start : (from : ℕ) → from ≡ startOf n reserve (fillsOf blocks blk₀) want → ((j : ℕ) → j < blocks → validWord blk₀ j ≤ fillWord blk₀ j)
+      → Placing n reserve blocks l want blk₀ spare₀ out₀ blk₀ spare₀ out₀ from 0 0
+  placing-start from e v =
       let z : l + 0 ≡ l = omega arith in
       let w : want - 0 ≡ want = omega arith in
-      let s : blocks - 0 ≡ blocks = omega arith in
-      let same = ap₂ (λ (x y : ℕ). rest n reserve blocks blk₀ 0 x y) z w in
+      let le = start-le n reserve blocks blk₀ want from e in
+      let same = ap₂ (λ (x y : ℕ). rest n reserve blocks blk₀ from x y) z w ∙ rest-from n reserve blocks blk₀ want from e l in
       record {
-        inside = omega arith;
+        inside = le;
         few = omega arith;
         rank = omega arith;
         blk-size = refl;
         spare-size = refl;
         out-size = refl;
         valid = v;
-        records = ap₂ (λ (x y : ℕ). raises n reserve x 0 y blk₀) s w;
+        records = ap (λ (y : ℕ). raises n reserve (blocks - from) from y blk₀) w
+            ∙ raises-skipped n reserve from want blocks blk₀ le (before-start n reserve blocks blk₀ want from e);
         labels = ap (λ (es : List Extent). labelled es spare₀) same;
         listing = ap (λ (es : List Extent). sets out₀ 0 (flat es)) same;
         counting = omega (arith, ap length same);
@@ -114,7 +119,7 @@ unfolding bare
 bare-words blocks n reserve blk spare s t =
     rw (length-tabulate blocks (fillWord blk)) (omega (arith, mul-le-mul {n₁ = blocks} {m₁ = n} {n₂ = 1024} {m₂ = 256} s t))
 
-module _ (blocks n reserve l want : ℕ) (blk spare out : List ℕ) (q : Ready blocks n reserve l want blk spare out) where
+module _ (blocks n reserve from l want : ℕ) (blk spare out : List ℕ) (q : Ready blocks n reserve from l want blk spare out) where
   pub ready-pieces : rest n reserve blocks blk 0 l want ≡ pieces l want (bare blocks n reserve blk spare)
   unfolding bare
   ready-pieces =
@@ -181,7 +186,7 @@ module _ (blocks n reserve l want : ℕ) (blk spare out : List ℕ) (q : Ready b
 
 -- ---- one block more
 
-module _ (n reserve blocks l want : ℕ) (blk₀ spare₀ out₀ : List ℕ) (q : Ready blocks n reserve l want blk₀ spare₀ out₀)
+module _ (n reserve blocks from l want : ℕ) (blk₀ spare₀ out₀ : List ℕ) (q : Ready blocks n reserve from l want blk₀ spare₀ out₀)
     (blk spare out : List ℕ) (b done k : ℕ) (p : Placing n reserve blocks l want blk₀ spare₀ out₀ blk spare out b done k) where
   module _ (m : ℕ) (h : b < blocks) (t : m ≡ takes n reserve blocks blk b (want - done)) where
     step-inside : HasBlock blk b
@@ -218,7 +223,7 @@ module _ (n reserve blocks l want : ℕ) (blk₀ spare₀ out₀ : List ℕ) (q 
             ap length (listed-some e es s),
             q .slots,
             p .out-size,
-            ap length (ready-pieces blocks n reserve l want blk₀ spare₀ out₀ q),
+            ap length (ready-pieces blocks n reserve from l want blk₀ spare₀ out₀ q),
           );
     }
 
@@ -265,7 +270,7 @@ module _ (n reserve blocks l want : ℕ) (blk₀ spare₀ out₀ : List ℕ) (q 
   placing-end h =
       let z : blocks - b ≡ 0 = omega arith in
       let over = rest-end n reserve blocks blk b (l + done) (want - done) h in
-      ready-placed blocks n reserve l want blk₀ spare₀ out₀ q blk spare out k
+      ready-placed blocks n reserve from l want blk₀ spare₀ out₀ q blk spare out k
       (sym (ap (λ (x : ℕ). raises n reserve x b (want - done) blk) z) ∙ p .records)
       (sym (ap (λ (xs : List Extent). labelled xs spare) over) ∙ p .labels)
       (sym (ap (λ (xs : List Extent). sets out (3 * k) (flat xs)) over) ∙ p .listing)

@@ -1,13 +1,15 @@
-// Where a write's pages go: the blocks in turn, each with what it has room for, the reserve never. The order of the blocks is known here and
-// in specs/Placement.antt of `rules`, and nowhere else in the code.
+// Where a write's pages go: the blocks in turn, each with what it has room for, the reserve never. The order is known here and nowhere else in
+// the code: `start_of` finds the block that a write starts with, and the walks over the blocks take it.
 use rules::Extent;
 ghost use mathlib.Core.Path.{_≡_};
 ghost use Prim.Native.Nat.{ℕ, _+_, _*_, _<_, _≤_, _^_};
 ghost use lib.ListN.{length};
 ghost use Rattle.rules.specs.Blocks.{stride, fillWord, validWord, HasBlock};
-ghost use Rattle.laws.specs.Spread.{taken, spread, firstPage};
-ghost use Rattle.placing.specs.Bare.{bare, fillsOf};
+ghost use Rattle.laws.specs.Spread.{taken};
+ghost use Rattle.placing.specs.Bare.{bare};
 ghost use Rattle.placing.specs.Blocks.{raised};
+ghost use Rattle.placing.specs.Rest.{rest};
+ghost use Rattle.placing.specs.Starts.{Starts};
 ghost use Rattle.placing.specs.Place.{Fits, PlacedIn, Ready, Placed};
 
 // What block b takes of `want` pages.
@@ -28,14 +30,38 @@ fn room_in(blk: &[u32], b: usize, n: u32, reserve: u32, want: u32) -> u32
     want
 }
 
-// How many pieces `want` pages make.
-pub fn pieces_of(blk: &[u32], blocks: u32, n: u32, reserve: u32, want: u32) -> u32
-    requires { ⌜ stride * blocks ≤ length (now blk) ⌝ }
-    ensures { λ r. ⌜ ((l : ℕ) → r ≡ length (spread n reserve (fillsOf blocks (now (blk .entry))) 0 l want)) ⌝ }
+// Where a write starts: the block of its first page, and that page.
+pub struct Start {
+    pub block: usize,
+    pub page: u32,
+}
+
+// Where `want` pages start: with the first block that takes some of them. Where none does, the block is the one behind the last.
+pub fn start_of(blk: &[u32], blocks: u32, n: u32, reserve: u32, want: u32) -> Start
+    requires { ⌜ (stride * blocks ≤ length (now blk)) × (blocks ≤ 1024) × (n ≤ 256) ⌝ }
+    ensures { λ r. ⌜ Starts n reserve blocks (now (blk .entry)) want r ⌝ }
+{
+    let mut b: usize = 0;
+    while b < blocks as usize {
+        if 0 < room_in(blk, b, n, reserve, want) {
+            return Start {
+                block: b,
+                page: (b as u32) * n + words::fill_of(blk, b),
+            };
+        }
+        b += 1;
+    }
+    Start { block: b, page: 0 }
+}
+
+// How many pieces `want` pages make from block `from` on.
+pub fn pieces_of(blk: &[u32], blocks: u32, n: u32, reserve: u32, from: usize, want: u32) -> u32
+    requires { ⌜ (stride * blocks ≤ length (now blk)) × (from ≤ blocks) ⌝ }
+    ensures { λ r. ⌜ ((l : ℕ) → r ≡ length (rest n reserve blocks (now (blk .entry)) from l want)) ⌝ }
 {
     let mut count: u32 = 0;
     let mut left = want;
-    let mut b: usize = 0;
+    let mut b = from;
     while b < blocks as usize {
         let m = room_in(blk, b, n, reserve, left);
         if 0 < m {
@@ -45,21 +71,6 @@ pub fn pieces_of(blk: &[u32], blocks: u32, n: u32, reserve: u32, want: u32) -> u
         b += 1;
     }
     count
-}
-
-// The page of the first piece, or 0 where no page is free.
-pub fn first_page(blk: &[u32], blocks: u32, n: u32, reserve: u32) -> u32
-    requires { ⌜ (stride * blocks ≤ length (now blk)) × (blocks ≤ 1024) × (n ≤ 256) ⌝ }
-    ensures { λ r. ⌜ ((l want : ℕ) → 0 < want → r ≡ firstPage (spread n reserve (fillsOf blocks (now (blk .entry))) 0 l want)) ⌝ }
-{
-    let mut b: usize = 0;
-    while b < blocks as usize {
-        if 0 < room_in(blk, b, n, reserve, 1) {
-            return (b as u32) * n + words::fill_of(blk, b);
-        }
-        b += 1;
-    }
-    0
 }
 
 // m pages more in block b, each of them mapped.
@@ -104,7 +115,7 @@ fn place_in(
     k + 1
 }
 
-// Places `want` pages for lines l, l + 1, .. and lists the pieces. Answers how many there are.
+// Places `want` pages for lines l, l + 1, .., which start with block `from`, and lists the pieces. Answers how many there are.
 pub fn place(
     blk: &mut [u32],
     spare: &mut [u32],
@@ -112,15 +123,16 @@ pub fn place(
     blocks: u32,
     n: u32,
     reserve: u32,
+    from: usize,
     l: u32,
     want: u32,
 ) -> u32
-    requires { ⌜ Ready blocks n reserve l want (now blk) (now spare) (now out) ⌝ }
+    requires { ⌜ Ready blocks n reserve from l want (now blk) (now spare) (now out) ⌝ }
     ensures { λ r. ⌜ Placed (bare blocks n reserve (now (blk .entry)) (now (spare .entry))) l want (now (blk .entry)) (now (out .entry)) (now (blk .exit)) (now (spare .exit)) (now (out .exit)) r ⌝ }
 {
     let mut done: u32 = 0;
     let mut k: u32 = 0;
-    let mut b: usize = 0;
+    let mut b = from;
     while b < blocks as usize {
         let m = room_in(blk, b, n, reserve, want - done);
         k = place_in(blk, spare, out, b, n, l + done, m, k);

@@ -1,21 +1,25 @@
 -- Where a write's new extents meet the old ones, and how many extents there are afterwards.
-use Prim.Native.Nat.{ℕ, zero, suc, _+_, _*_, _≤_, _<_}
+use Prim.Native.Nat.{ℕ, _+_, _≤_, _<_}
 use mathlib.Core.Bool.{Bool}
 use mathlib.Core.Path.{_≡_, refl, ap, _∙_}
 use native.Mathlib.Omega.{arith}
-use lib.ListN.{length, getD}
+use lib.ListN.{length}
 use Rattle.rules.specs.Counting.{one}
-use Rattle.rules.specs.Extents.{none, extent}
+use Rattle.rules.specs.Extents.{extent}
 use Rattle.rules.specs.Lent.{Lent, inUse}
-use Rattle.rules.specs.Device.{Device, blocks, fill, free, extents, deviceOf}
-use Rattle.rules.specs.Placement.{placesAt, target, targets, puts, places, pieces}
+use Rattle.rules.specs.Device.{Device, blocks, lines, free, extents, deviceOf}
+use Rattle.rules.specs.Placement.{puts, pieces}
+use Rattle.laws.specs.Device.{Sound}
 use Rattle.laws.specs.Sane.{Shaped, Sane}
 use Rattle.laws.specs.Counts.{startsBefore, endsAfter, leftJoin}
-use Rattle.laws.specs.Growth.{write-grows}
-use Rattle.laws.specs.Spread.{firstPage, spread}
+use Rattle.laws.specs.Growth.{firstPlace, write-grows}
+use Rattle.laws.specs.Spread.{startOf}
 use Rattle.laws.specs.States.{device-lines, extents-in-use, sane-good}
 use Rattle.map.specs.Around.{Beside, joinsBefore, joins-before}
-use Rattle.placing.specs.Bare.{fillsOf, bare-device, pieces-on, first-on}
+use Rattle.placing.specs.Bare.{fillsOf, bare-device}
+use Rattle.placing.specs.Rest.{rest}
+use Rattle.placing.specs.Starts.{Starts, pieces-on, first-on}
+use Rattle.placing.specs.declared.Start.{Start}
 use Rattle.verdicts.specs.Trimming.{few-around}
 use Rattle.writable.specs.declared.Meeting.{Meeting}
 
@@ -28,10 +32,6 @@ pub record Writable (l n : ℕ) (s : Lent) : Type 0 where
   pub inside : l + n ≤ s .head .logical
   pub enough : n ≤ free (deviceOf s)
 
--- the first page that it takes
-abbrev pub firstOf : Device → ℕ
-firstOf d = target d * d .pages + fill d (target d)
-
 abbrev pub piecesOf : ℕ → ℕ → Lent → ℕ
 piecesOf l n s = length (pieces l n (deviceOf s))
 
@@ -40,35 +40,34 @@ nodesOf l n s = length (extents (puts l n (deviceOf s)))
 
 pub record Meets (l n : ℕ) (s : Lent) (m : Meeting) : Type 0 where
   pub sides : Beside l (l + n) (inUse s) (m .sides)
-  pub joined : Writable l n s → one (m .joined) ≡ leftJoin (s .head .pages) (extent l (firstOf (deviceOf s)) 1) (inUse s)
-
-place-first : (l n : ℕ) (d : Device) → 0 < n → getD (places l n d) 0 none ≡ firstOf d
-unfolding places placesAt targets
-place-first l zero d h = absurd (omega arith)
-place-first l (suc n) d h = refl
+  pub from : m .from ≡ startOf (s .head .pages) (s .head .reserve) (fillsOf (s .head .blocks) (s .blockWords)) n
+  pub joined : Writable l n s → one (m .joined) ≡ leftJoin (s .head .pages) (extent l (firstPlace l n (deviceOf s)) 1) (inUse s)
 
 module _ (l n : ℕ) (s : Lent) (z : Writable l n s) where
   abbrev d : Device
   d = deviceOf s
 
-  pages-in : length (deviceOf s .fills) * deviceOf s .pages ≤ none
-  pages-in = sane-good s (z .shape) (z .sane) .sound .words
+  sound : Sound (deviceOf s)
+  sound = sane-good s (z .shape) (z .sane) .sound
+
+  in-lines : l + n ≤ lines (deviceOf s)
+  in-lines = omega (arith, z .inside, device-lines s)
 
   -- the code's pieces and first page are the rules'
-  pub pieces-are : (k : ℕ) → k ≡ length (spread (s .head .pages) (s .head .reserve) (fillsOf (s .head .blocks) (s .blockWords)) 0 l n) → k ≡ piecesOf l n s
-  pieces-are k e =
-      e ∙ ap length (pieces-on (s .head .blocks) (s .head .pages) (s .head .reserve) (s .blockWords) (s .spare) (deviceOf s) (bare-device s) pages-in l n (z .enough))
+  pub pieces-are : (k from : ℕ) → from ≡ startOf (s .head .pages) (s .head .reserve) (fillsOf (s .head .blocks) (s .blockWords)) n
+      → k ≡ length (rest (s .head .pages) (s .head .reserve) (s .head .blocks) (s .blockWords) from l n) → k ≡ piecesOf l n s
+  pieces-are k from f e =
+      e ∙ ap length (pieces-on (s .head .blocks) (s .head .pages) (s .head .reserve) (s .blockWords) (s .spare) (deviceOf s) (bare-device s) sound l n (z .some) (z .enough) in-lines from f)
 
-  pub first-is : (p : ℕ) → p ≡ firstPage (spread (s .head .pages) (s .head .reserve) (fillsOf (s .head .blocks) (s .blockWords)) 0 l n) → p ≡ firstOf (deviceOf s)
-  first-is p e =
-      e ∙ first-on (s .head .blocks) (s .head .pages) (s .head .reserve) (s .blockWords) (s .spare) (deviceOf s) (bare-device s) pages-in l n (z .enough) (z .some)
-      ∙ place-first l n (deviceOf s) (z .some)
+  pub first-is : (r : Start) → Starts (s .head .pages) (s .head .reserve) (s .head .blocks) (s .blockWords) n r → r .page ≡ firstPlace l n (deviceOf s)
+  first-is r e =
+      first-on (s .head .blocks) (s .head .pages) (s .head .reserve) (s .blockWords) (s .spare) (deviceOf s) (bare-device s) sound l n (z .some) (z .enough) in-lines r e
 
-  pub joined-is : (p b : ℕ) (t : Bool) → p ≡ firstOf (deviceOf s) → b ≡ startsBefore l (inUse s) → t ≡ joinsBefore (s .head .pages) (extent l p 1) b (s .extentWords)
-      → one t ≡ leftJoin (s .head .pages) (extent l (firstOf (deviceOf s)) 1) (inUse s)
+  pub joined-is : (p b : ℕ) (t : Bool) → p ≡ firstPlace l n (deviceOf s) → b ≡ startsBefore l (inUse s) → t ≡ joinsBefore (s .head .pages) (extent l p 1) b (s .extentWords)
+      → one t ≡ leftJoin (s .head .pages) (extent l (firstPlace l n (deviceOf s)) 1) (inUse s)
   joined-is p b t e f g =
       ap one (g ∙ ap (λ (x : ℕ). joinsBefore (s .head .pages) (extent l x 1) b (s .extentWords)) e)
-      ∙ joins-before (s .head .pages) (s .head .logical) (extent l (firstOf (deviceOf s)) 1) (s .extentWords) (s .head .used) b (z .sane .rows) f
+      ∙ joins-before (s .head .pages) (s .head .logical) (extent l (firstPlace l n (deviceOf s)) 1) (s .extentWords) (s .head .used) b (z .sane .rows) f
 
   pages-same : deviceOf s .pages ≡ s .head .pages
   unfolding deviceOf
@@ -77,10 +76,10 @@ module _ (l n : ℕ) (s : Lent) (z : Writable l n s) where
   -- before + after + pieces, less one for a join
   pub grows : (m : Meeting) → Meets l n s m → nodesOf l n s + one (m .joined) ≡ m .sides .before + m .sides .after + piecesOf l n s
   grows m e =
-      let g = write-grows l n (deviceOf s) (sane-good s (z .shape) (z .sane) .sound) (z .some) (z .enough) (omega (arith, z .inside, device-lines s)) in
+      let g = write-grows l n (deviceOf s) sound (z .some) (z .enough) in-lines in
       let es = extents-in-use s (z .shape) (z .sane) in
-      let j : leftJoin (deviceOf s .pages) (extent l (firstOf (deviceOf s)) 1) (extents (deviceOf s)) ≡ leftJoin (s .head .pages) (extent l (firstOf (deviceOf s)) 1) (inUse s) =
-      ap (λ (x : ℕ). leftJoin x (extent l (firstOf (deviceOf s)) 1) (extents (deviceOf s))) pages-same ∙ ap (leftJoin (s .head .pages) (extent l (firstOf (deviceOf s)) 1)) es in
+      let j : leftJoin (deviceOf s .pages) (extent l (firstPlace l n (deviceOf s)) 1) (extents (deviceOf s)) ≡ leftJoin (s .head .pages) (extent l (firstPlace l n (deviceOf s)) 1) (inUse s) =
+      ap (λ (x : ℕ). leftJoin x (extent l (firstPlace l n (deviceOf s)) 1) (extents (deviceOf s))) pages-same ∙ ap (leftJoin (s .head .pages) (extent l (firstPlace l n (deviceOf s)) 1)) es in
       omega (
         arith,
         g,

@@ -13,10 +13,11 @@ ghost use Rattle.laws.specs.Sane.{Shaped, Sane};
 ghost use Rattle.verdicts.specs.Refusals.{told, roomed};
 ghost use Rattle.writable.specs.Meeting.{Meets};
 
-// Where a write's new extents meet the old ones: the sides of its range, and whether the last extent before it and the first new one are
-// joinable.
+// Where a write's new extents meet the old ones: the sides of its range, the block that its pages start with, and whether the last extent
+// before it and the first new one are joinable.
 pub struct Meeting {
     pub sides: Sides,
+    pub from: usize,
     pub joined: bool,
 }
 
@@ -26,10 +27,11 @@ pub fn meeting_of(h: Head, ext: &[u32], blk: &[u32], spare: &[u32], l: u32, n: u
     ensures { λ m. ⌜ Meets l n (lent h (now (ext .entry)) (now (blk .entry)) (now (spare .entry))) m ⌝ }
 {
     let sides = map::around(ext, h.used as usize, l, n);
-    let p = placing::first_page(blk, h.blocks, h.pages, h.reserve);
-    let joined = map::joins_left(ext, sides.before, h.pages, l, p);
+    let start = placing::start_of(blk, h.blocks, h.pages, h.reserve, n);
+    let joined = map::joins_left(ext, sides.before, h.pages, l, start.page);
     Meeting {
         sides: sides,
+        from: start.block,
         joined: joined,
     }
 }
@@ -71,7 +73,7 @@ pub fn write_verdict(
     if blocks::totals_of(h, blk).free < n {
         return Verdict::Refused(Refusal::NoPages);
     }
-    let k = placing::pieces_of(blk, h.blocks, h.pages, h.reserve, n);
+    let k = placing::pieces_of(blk, h.blocks, h.pages, h.reserve, m.from, n);
     let nodes = nodes_after(m, k);
     let fits = nodes <= h.slots as usize;
     let listed = (k as usize) <= room / 3;

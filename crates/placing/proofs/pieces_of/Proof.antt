@@ -5,15 +5,15 @@ use native.Mathlib.Omega.{arith}
 use borrow.Author.Needs.{needs}
 use Rattle.rules.specs.Blocks.{fillWord}
 use Rattle.laws.specs.Spread.{taken-le}
-use Rattle.placing.specs.Rest.{howMany, many-start, many-end, many-skip, many-some}
+use Rattle.placing.specs.Rest.{howMany, many-lines, many-end, many-skip, many-some}
 use Rattle.placing.proofs.pieces_of.Statement.{statement}
 use Rattle.placing.proofs.pieces_of.Tie as tie
 
 abbrev Inv-loop : tie.InvT-loop
-Inv-loop blk blocks n reserve want count₀ left₀ b₀ count left b = (b ≤ blocks) × (count ≤ b) × (count + howMany n reserve blocks blk b left ≡ howMany n reserve blocks blk 0 want)
+Inv-loop blk blocks n reserve from want count₀ left₀ b₀ count left b = (b ≤ blocks) × (count ≤ b) × (count + howMany n reserve blocks blk b left ≡ howMany n reserve blocks blk from want)
 
 abbrev μ-loop : tie.MeasureT-loop
-μ-loop blk blocks n reserve want count₀ left₀ b₀ count left b = blocks - b
+μ-loop blk blocks n reserve from want count₀ left₀ b₀ count left b = blocks - b
 
 loop-holds : tie.Need-loop-holds Inv-loop μ-loop
 loop-holds c = (search needs, search needs, search needs)
@@ -55,7 +55,7 @@ returns c l =
     omega (
       arith,
       many-end (v .n) (v .reserve) (v .blocks) (v .blk .now) (i .b) (i .left) (omega arith),
-      many-start (v .n) (v .reserve) (v .blocks) (v .blk .now) l (v .want),
+      many-lines (v .n) (v .reserve) (v .blocks) (v .blk .now) (v .from) l (v .want),
     )
 
 pub pieces-of-spec : {M : Type 1} → statement M

@@ -8,13 +8,13 @@ use Rattle.placing.proofs.place.Statement.{statement}
 use Rattle.placing.proofs.place.Tie as tie
 
 abbrev Inv-loop : tie.InvT-loop
-Inv-loop blk₀ spare₀ out₀ blocks n reserve l want done₀ k₀ b₀ blk spare out done k b = Placing n reserve blocks l want blk₀ spare₀ out₀ blk spare out b done k
+Inv-loop blk₀ spare₀ out₀ blocks n reserve from l want done₀ k₀ b₀ blk spare out done k b = Placing n reserve blocks l want blk₀ spare₀ out₀ blk spare out b done k
 
 abbrev μ-loop : tie.MeasureT-loop
-μ-loop blk₀ spare₀ out₀ blocks n reserve l want done₀ k₀ b₀ blk spare out done k b = blocks - b
+μ-loop blk₀ spare₀ out₀ blocks n reserve from l want done₀ k₀ b₀ blk spare out done k b = blocks - b
 
 loop-holds : tie.Need-loop-holds Inv-loop μ-loop
-loop-holds c = placing-start _ _ _ _ _ _ _ _ (c .before .before .before .pre .valid)
+loop-holds c = let q = c .before .before .before .pre in placing-start _ _ _ _ _ _ _ _ _ (q .start) (q .valid)
 
 sub-room-in : tie.Need-sub-room-in Inv-loop μ-loop
 sub-room-in c = search needs
@@ -31,7 +31,7 @@ place-in-requires c κs =
     let i = c .before .before .before .before .before .before .loop in
     let m = c .before .before .before .room-in .result in
     let t = c .before .before .before .room-in .ensures in
-    placing-fits (v .n) (v .reserve) (v .blocks) (v .l) (v .want) (v .blk .now) (v .spare .now) (v .out .now) (c .before .before .before .before .before .before .before .before .before .before .pre)
+    placing-fits (v .n) (v .reserve) (v .blocks) (v .from) (v .l) (v .want) (v .blk .now) (v .spare .now) (v .out .now) (c .before .before .before .before .before .before .before .before .before .before .pre)
     (i .blk) (i .spare) (i .out) (i .b) (i .done) (i .k) (i .inv) m (omega arith) t
 
 add-done : tie.Need-add-done Inv-loop μ-loop
@@ -54,7 +54,7 @@ loop-again c =
     let i = c .before .before .before .before .before .before .before .before .before .before .before .before .before .loop in
     let m = c .before .before .before .before .before .before .before .before .before .before .room-in .result in
     let t = c .before .before .before .before .before .before .before .before .before .before .room-in .ensures in
-    placing-step (v .n) (v .reserve) (v .blocks) (v .l) (v .want) (v .blk .now) (v .spare .now) (v .out .now) (c .before .before .before .before .before .before .before .before .before .before .before .before .before .before .before .before .before .pre)
+    placing-step (v .n) (v .reserve) (v .blocks) (v .from) (v .l) (v .want) (v .blk .now) (v .spare .now) (v .out .now) (c .before .before .before .before .before .before .before .before .before .before .before .before .before .before .before .before .before .pre)
     (i .blk) (i .spare) (i .out) (i .b) (i .done) (i .k) (i .inv) m (omega arith) t
     (c .before .before .before .before .before .before .place-in .last .0) (c .before .before .before .before .before .before .place-in .last .1 .0) (c .before .before .before .before .before .before .place-in .last .1 .1 .0) (c .before .before .before .before .before .before .place-in .result) (c .before .before .before .before .before .before .place-in .ensures)
 
@@ -71,7 +71,7 @@ returns : tie.Need-returns Inv-loop μ-loop
 returns c =
     let v = c .before .before .before .before .before .args in
     let i = c .before .loop in
-    placing-end (v .n) (v .reserve) (v .blocks) (v .l) (v .want) (v .blk .now) (v .spare .now) (v .out .now) (c .before .before .before .before .before .pre)
+    placing-end (v .n) (v .reserve) (v .blocks) (v .from) (v .l) (v .want) (v .blk .now) (v .spare .now) (v .out .now) (c .before .before .before .before .before .pre)
     (i .blk) (i .spare) (i .out) (i .b) (i .done) (i .k) (i .inv) (omega arith)
 
 pub place-spec : {M : Type 1} → statement M

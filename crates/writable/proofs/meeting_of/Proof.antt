@@ -15,8 +15,8 @@ cast-around c = search needs
 around-requires : tie.Need-around-requires
 around-requires c κs = search needs
 
-first-page-requires : tie.Need-first-page-requires
-first-page-requires c κs = search needs
+start-of-requires : tie.Need-start-of-requires
+start-of-requires c κs = search needs
 
 joins-left-requires : tie.Need-joins-left-requires
 joins-left-requires c κs =
@@ -30,9 +30,10 @@ returns c =
     let l = s .args .l in
     let n = s .args .n in record {
       sides = c .before .before .around .ensures;
-      joined = λ w. joined-is l n (state s) w _ _ _ (first-is l n (state s) w _ (c .before .first-page .ensures l n (w .some)))
+      from = c .before .start-of .ensures .block;
+      joined = λ w. joined-is l n (state s) w _ _ _ (first-is l n (state s) w (c .before .start-of .result) (c .before .start-of .ensures))
           (c .before .before .around .ensures .before) (c .joins-left .ensures);
     }
 
 pub meeting-of-spec : {M : Type 1} → statement M
-meeting-of-spec = tie.close (tie.spec cast-around around-requires first-page-requires joins-left-requires returns)
+meeting-of-spec = tie.close (tie.spec cast-around around-requires start-of-requires joins-left-requires returns)

@@ -1,4 +1,5 @@
 use borrow.Author.Needs.{needs}
+use Rattle.placing.specs.Starts.{start-le}
 use mathlib.Core.Path.{_≡_, sym, ap, _∙_}
 use mathlib.Core.Bool.{Bool, _&&_}
 use mathlib.Core.Logic.{⊎-elim}
@@ -84,7 +85,9 @@ returns-2 c =
     (omega (arith, device-free (state s) (s .pre .0) (s .pre .1), totals .totals-of .ensures .free))
 
 pieces-of-requires : tie.Need-pieces-of-requires
-pieces-of-requires c κs = let s = start (c .before .before .before .before .before) in omega (arith, s .pre .0 .blocks)
+pieces-of-requires c κs =
+    let s = start (c .before .before .before .before .before) in
+    (omega (arith, s .pre .0 .blocks), start-le (s .args .h .pages) (s .args .h .reserve) (s .args .h .blocks) (s .args .blk .now) (s .args .n) (s .args .m .from) (s .pre .2 .from))
 
 nodes-after-requires : tie.Need-nodes-after-requires
 nodes-after-requires c κs =
@@ -95,7 +98,7 @@ nodes-after-requires c κs =
     let w = writable (state s) (s .pre .0) (s .pre .1) (s .args .number) (s .args .l) (s .args .n) (s .args .room) _ (asked f) (told .enum-told .given .1)
     (omega (arith, device-free (state s) (s .pre .0) (s .pre .1), totals .totals-of .ensures .free)) in
     let many = grows (s .args .l) (s .args .n) (state s) w (s .args .m) (s .pre .2) in
-    let k = pieces-are (s .args .l) (s .args .n) (state s) w _ (c .pieces-of .ensures (s .args .l)) in
+    let k = pieces-are (s .args .l) (s .args .n) (state s) w _ _ (s .pre .2 .from) (c .pieces-of .ensures (s .args .l)) in
     (few-meet (s .args .l) (s .args .n) (state s) (s .pre .0) (s .pre .1) (s .args .m) (s .pre .2), omega arith)
 
 cast-fits : tie.Need-cast-fits
@@ -124,7 +127,7 @@ returns-3 c =
     let s = start f in
     let enough : s .args .n ≤ free (deviceOf (state s)) = omega (arith, device-free (state s) (s .pre .0) (s .pre .1), totals .totals-of .ensures .free) in
     let w = writable (state s) (s .pre .0) (s .pre .1) (s .args .number) (s .args .l) (s .args .n) (s .args .room) _ (asked f) (told .enum-told .given .1) enough in
-    let k = pieces-are (s .args .l) (s .args .n) (state s) w _ (pieces .pieces-of .ensures (s .args .l)) in
+    let k = pieces-are (s .args .l) (s .args .n) (state s) w _ _ (s .pre .2 .from) (pieces .pieces-of .ensures (s .args .l)) in
     c .first-of2 .ensures
     ∙ write-last (state s) (s .pre .0) (s .pre .1) (s .args .number) (s .args .l) (s .args .n) (s .args .room) _ (asked f) (told .enum-told .given .1) enough
     (nodes .nodes-after .result) (pieces .pieces-of .result) (many .unless2 .result) (c .before .unless3 .result)
