@@ -1,5 +1,5 @@
 -- Demand 2, proved of every world that holds a good device with its flash and its lines.
-use Prim.Native.Nat.{ℕ, _<_}
+use Prim.Native.Nat.{ℕ}
 use mathlib.Core.Path.{_≡_, refl, sym, ap, _∙_, subst}
 use mathlib.Core.List.{List, [], _∷_, map}
 use mathlib.Core.Logic.{by-cases}
@@ -14,7 +14,7 @@ use Rattle.laws.specs.Sane.{Good}
 use Rattle.laws.specs.States.{words-device}
 use Rattle.laws.specs.Calls.{call-plain}
 use Rattle.laws.specs.Kept.{keeps}
-use Rattle.demands.specs.Flash.{Cell, hole, contents}
+use Rattle.demands.specs.Flash.{hole, contents}
 use Rattle.demands.specs.Host.{Ask, World, run}
 use Rattle.demands.specs.Demand2.{history, plainHistory, trace, NotTwice, InOrder, Demand2}
 use Rattle.demands.specs.Worlds.{Holds, plain-accepted, plain-refused, run-holds, holds-reads}

@@ -6,9 +6,8 @@ use mathlib.Core.Bool.{Bool, true, false, cond, _&&_, _||_}
 use mathlib.Core.Path.{_≡_}
 use mathlib.Core.List.{List, [], _∷_}
 use lib.Dec.{eqb, leb}
-use lib.ListN.{length}
 use Rattle.rules.specs.Counting.{count}
-use Rattle.rules.specs.Lent.{Lent, validOf}
+use Rattle.rules.specs.Lent.{validOf}
 use Rattle.rules.specs.Device.{Device, at, mapped, deviceOf}
 use Rattle.rules.specs.Request.{usedUp}
 use Rattle.rules.specs.Calls.{Call, buffer, call}

@@ -4,27 +4,24 @@ use mathlib.Core.Bool.{Bool, true, false, not, cond, _&&_, _||_, false≢true}
 use mathlib.Core.Path.{_≡_, refl, sym, ap, _∙_, subst}
 use mathlib.Core.List.{List, [], _∷_}
 use native.Mathlib.Omega.{arith}
-use borrow.Author.Tests.{eq-eqb, ne-eqb, eqb-true, le-leb, leb-true}
+use borrow.Author.Tests.{ne-eqb, eqb-true, le-leb, leb-true}
 use lib.Dec.{eqb, ltb, leb}
-use lib.ListN.{length, getD}
-use Rattle.rules.specs.Counting.{count}
+use lib.ListN.{getD}
 use Rattle.rules.specs.Extents.{none}
 use Rattle.rules.specs.Lent.{Lent, validOf}
 use Rattle.rules.specs.Shape.{shaped}
 use Rattle.rules.specs.Sound.{sound}
 use Rattle.rules.specs.Device.{Device, blocks, lines, at, mapped, valid, deviceOf, headOf, wordsOf}
 use Rattle.rules.specs.Placement.{targets, puts, placesAt}
-use Rattle.rules.specs.Reclaim.{reclaimedAt, reclaimed}
 use Rattle.rules.specs.Request.{usedUp, withTable, numbered, written, trimmed}
 use Rattle.rules.specs.Answers.{number, refuse}
-use Rattle.rules.specs.Calls.{Call, refusal, leaves, buffer, call}
-use Rattle.rules.specs.declared.Head.{Head}
+use Rattle.rules.specs.Calls.{Call, refusal, leaves, call}
 use Rattle.rules.specs.declared.Refusal.{Refusal}
 use Rattle.laws.specs.Bools.{cases, and-split}
 use Rattle.laws.specs.Sums.{count-within}
 use Rattle.laws.specs.Cells.{sets-other}
 use Rattle.laws.specs.Sane.{Good}
-use Rattle.laws.specs.Placed.{puts-table, puts-pages, length-places}
+use Rattle.laws.specs.Placed.{puts-table, length-places}
 use Rattle.laws.specs.Order.{puts-all, length-targets}
 use Rattle.laws.specs.Lines.{trimmed-lines, trimmed-other}
 use Rattle.laws.specs.Reclaimed.{reclaim-all}

@@ -7,7 +7,6 @@ use native.Mathlib.Omega.{arith}
 use native.Mathlib.Decide.{ℕ-discrete}
 use borrow.Author.Tests.{eq-eqb, ne-eqb}
 use lib.Arith.{digits-lt}
-use lib.Dec.{eqb}
 use lib.ListN.{length, getD, set, replicate, length-set}
 use lib.Seq.{sets}
 use Rattle.rules.specs.Extents.{none}
@@ -15,7 +14,7 @@ use Rattle.rules.specs.Device.{Device, blocks, lines, at, fill, valid}
 use Rattle.rules.specs.Placement.{putAt, putsAt, placesAt}
 use Rattle.rules.specs.Request.{withTable, trimmed}
 use Rattle.rules.specs.Reclaim.{sources, moved, reclaimedAt}
-use Rattle.demands.specs.Flash.{Cell, erased, value, Seen, hole, cell, see, contents}
+use Rattle.demands.specs.Flash.{Cell, erased, value, hole, cell, see, contents}
 use Rattle.laws.specs.Cells.{block-le, far, copies, copies-copied, Blanks, blanks}
 use Rattle.laws.specs.Device.{Sound, Blank, page-lt}
 use Rattle.laws.specs.Placed.{Open, Opens, put-pages, put-blocks, put-at, put-at-other, stored-in, stored-kept, stored-blank, put-one}

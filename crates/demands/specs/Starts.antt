@@ -1,8 +1,8 @@
 -- Where histories start: any sound state on a flash that is erased from each fill on, and the fresh device on erased flash.
-use Prim.Native.Nat.{ℕ, zero, suc, _+_, _*_, _<_}
+use Prim.Native.Nat.{ℕ, _+_, _*_, _<_}
 use mathlib.Core.Bool.{true, _&&_}
-use mathlib.Core.Path.{_≡_, refl, sym, ap, _∙_}
-use mathlib.Core.List.{List, []}
+use mathlib.Core.Path.{_≡_, sym, ap, _∙_}
+use mathlib.Core.List.{List}
 use mathlib.Core.Logic.{by-cases}
 use native.Mathlib.Omega.{arith}
 use native.Mathlib.Decide.{decLt}

@@ -1,7 +1,6 @@
 -- One call on any lent state, sound or not: the sizes stay, and the last number does not fall.
-use Prim.Native.Nat.{ℕ, _≤_, _<_}
+use Prim.Native.Nat.{_≤_}
 use mathlib.Core.Path.{_≡_, refl, ap, _∙_}
-use mathlib.Core.List.{List}
 use mathlib.Core.Logic.{by-cases}
 use native.Mathlib.Omega.{arith}
 use native.Mathlib.Decide.{ℕ-discrete}
@@ -10,9 +9,7 @@ use Rattle.rules.specs.Device.{Device, deviceOf, headOf, wordsOf}
 use Rattle.rules.specs.Placement.{targets, puts}
 use Rattle.rules.specs.Reclaim.{reclaimedAt, reclaimed}
 use Rattle.rules.specs.Request.{withTable, numbered, written, trimmed}
-use Rattle.rules.specs.Answers.{Outcome}
 use Rattle.rules.specs.Calls.{Call, refusal, leaves, call}
-use Rattle.rules.specs.declared.Head.{Head}
 use Rattle.laws.specs.Placed.{puts-pages}
 use Rattle.laws.specs.Kept.{taken, accepted-in}
 use Rattle.demands.specs.Refusals.{refused-untouched}

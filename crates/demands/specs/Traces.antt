@@ -1,16 +1,14 @@
 -- All that the host does in a history is allowed when it comes; so no page is programmed twice between erases, and the pages of a block come in order.
-use Prim.Native.Nat.{ℕ, suc, _/_, _%_, _≤_, _<_}
-use mathlib.Core.Bool.{Bool, true, false, false≢true}
+use Prim.Native.Nat.{ℕ, suc, _/_, _≤_, _<_}
+use mathlib.Core.Bool.{true, false, false≢true}
 use mathlib.Core.Path.{_≡_, refl, sym, ap, _∙_, subst}
 use mathlib.Core.List.{List, [], _∷_, _++_}
 use native.Mathlib.Omega.{arith}
 use native.Mathlib.Decide.{ℕ-discrete}
 use mathlib.Core.Logic.{by-cases}
 use borrow.Author.Tests.{eqb-true, eqb-false}
-use lib.Dec.{eqb}
 use lib.ListN.{length, getD, set, length-set}
 use lib.Seq.{getD-set-same, getD-set-other}
-use Rattle.rules.specs.Lent.{Lent}
 use Rattle.laws.specs.Bools.{cases, or-split}
 use Rattle.demands.specs.Flash.{Cell}
 use Rattle.demands.specs.Host.{Ask, Op, ops, does, doing, marks, marking, May, Allowed, AllAllowed, World, step}

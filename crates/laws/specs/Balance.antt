@@ -81,10 +81,6 @@ module _ (d : Device) (s : Sound d) where
       ∙ sum-same (fill d b) (λ o. sum (lines d) (λ l. one (eqb (at d l) (b * d .pages + o)))) (λ o. one (named d b o)) (λ o t. one-line b o h t)
       ∙ sym (count-sum (fill d b) (named d b))
 
-  pub valid-live : (b : ℕ) → b < blocks d → valid d b ≡ count (fill d b) (liveAt d b)
-  valid-live b h =
-      valid-named b h ∙ count-same (fill d b) (named d b) (liveAt d b) (λ o t. named-live d s b h o (omega (arith, s .full b h)))
-
   -- ---- live pages, block by block
 
   -- a line has a page in one block or in none

@@ -1,18 +1,17 @@
 -- A call on the words of a good device is the call on the plain device, its device as words; and what a call does with words that are of no such device.
 use Prim.Native.Nat.{ℕ}
-use mathlib.Core.Bool.{true, false}
-use mathlib.Core.Path.{_≡_, refl, sym, ap, _∙_}
+use mathlib.Core.Bool.{false}
+use mathlib.Core.Path.{_≡_, refl, ap}
 use Rattle.rules.specs.Lent.{Lent}
 use Rattle.rules.specs.Shape.{shaped}
-use Rattle.rules.specs.Sound.{sound}
-use Rattle.rules.specs.Device.{Device, deviceOf, wordsOf}
+use Rattle.rules.specs.Device.{Device, wordsOf}
 use Rattle.rules.specs.Answers.{number, refuse}
 use Rattle.rules.specs.Calls.{Call, refusal, counts, leaves, lists, buffer, over, refused, accepted, plainCall, encoded, verdict, acceptedOn, call}
 use Rattle.rules.specs.declared.Refusal.{Refusal}
 use lib.Dec.{eqb}
 use Rattle.laws.specs.Bools.{cases}
 use Rattle.laws.specs.Sane.{Good}
-use Rattle.laws.specs.States.{words-device, good-shaped, good-sound, sound-iff}
+use Rattle.laws.specs.States.{words-device, good-shaped, good-sound}
 
 module _ (c : Call) (d : Device) (g : Good d) where
   pub verdict-words : verdict c (wordsOf d) ≡ refusal c d
@@ -35,17 +34,7 @@ module _ (c : Call) (d : Device) (g : Good d) where
       (λ e. rw e accepted-words)
       (λ e. rw e (refused-words (refusal c d))))
 
--- a call on a sound state is the call on its device
-pub call-sound : (c : Call) (s : Lent) → shaped s ≡ true → sound s ≡ true → call c s ≡ encoded (plainCall c (deviceOf s))
-call-sound c s h e =
-    let p = sound-iff s h .0 e in
-    ap (call c) (sym (p .1)) ∙ call-plain c (deviceOf s) (p .0)
-
 -- 01, Refusals, 1 and 2
 pub call-shape : (c : Call) (s : Lent) → shaped s ≡ false → call c s ≡ refused (number Refusal.Shape) c s
 unfolding call verdict refuse
 call-shape c s e = rw e
-
-pub call-damaged : (c : Call) (s : Lent) → shaped s ≡ true → sound s ≡ false → call c s ≡ refused (number Refusal.Damaged) c s
-unfolding call verdict refuse
-call-damaged c s h e = rw (h, e)

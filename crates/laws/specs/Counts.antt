@@ -56,9 +56,6 @@ unfolding tally
 tally-more t ws u =
     ap (tally t) (slots-more ws 0 u u (omega arith)) ∙ tally-append t (slotsFrom ws 0 u) (slot ws u ∷ []) ∙ omega arith
 
-pub left-more : (n : ℕ) (f : Extent) (ws : List ℕ) (u : ℕ) → leftJoin n f (slotsFrom ws 0 (u + 1)) ≡ leftJoin n f (slotsFrom ws 0 u) + one (joinable n (slot ws u) f)
-left-more n f = tally-more (λ e. joinable n e f)
-
 pub tally-le : (t : Extent → Bool) (es : List Extent) → tally t es ≤ length es
 unfolding tally
 tally-le t [] = omega arith

@@ -1,10 +1,8 @@
 -- The extents of a device's map after each call, from those before it; and how many there are at most.
-use Prim.Native.Nat.{ℕ, suc, _+_, _/_, _%_, _≤_, _<_}
+use Prim.Native.Nat.{ℕ, _+_, _/_, _%_, _≤_, _<_}
 use mathlib.Core.Path.{_≡_, sym, ap, _∙_, subst, fun-ext}
-use mathlib.Core.List.{List, [], _∷_, map}
-use mathlib.Core.Logic.{by-cases}
+use mathlib.Core.List.{List, map}
 use native.Mathlib.Omega.{arith}
-use native.Mathlib.Decide.{ℕ-discrete}
 use native.Mathlib.Nat.{suc-mul}
 use lib.Arith.{digits-mod}
 use lib.ListN.{length, length-map}
@@ -14,7 +12,7 @@ use Rattle.rules.specs.Placement.{putsAt, placesAt}
 use Rattle.rules.specs.Request.{withTable, trimmed}
 use Rattle.rules.specs.Reclaim.{victim, goes, reclaimedAt, reclaimed}
 use Rattle.laws.specs.Cells.{block-le}
-use Rattle.laws.specs.Runs.{join-length, runs-hole, runs-page, runs-rows, runs-lookup, runs-length}
+use Rattle.laws.specs.Runs.{runs-rows, runs-lookup, runs-length}
 use Rattle.laws.specs.Cut.{cut}
 use Rattle.laws.specs.Trim.{trim-cut}
 use Rattle.laws.specs.Write.{place, write-place}

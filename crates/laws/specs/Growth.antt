@@ -12,14 +12,14 @@ use Rattle.rules.specs.Extents.{none, extent, runs}
 use Rattle.rules.specs.Device.{Device, blocks, lines, at, fill, free, extents}
 use Rattle.rules.specs.Placement.{putAt, putsAt, placesAt, targets, puts, places, pieces}
 use Rattle.rules.specs.Request.{withTable, trimmed}
-use Rattle.laws.specs.Counts.{Begins, runs-first, startsBefore, endsAfter, leftJoin, trim-count, write-count, cut-bound, place-bound}
+use Rattle.laws.specs.Counts.{Begins, runs-first, startsBefore, endsAfter, leftJoin, trim-count, write-count, place-bound}
 use Rattle.laws.specs.Device.{Sound, same-block, same-offset, page-lt, offset-lt}
 use Rattle.laws.specs.Placed.{Open, Opens, put-pages, put-fill, put-fill-other, put-one, puts-table, puts-pages, length-places, places-lt, places-small}
 use Rattle.laws.specs.Order.{length-targets, length-placed, targets-open, puts-all}
 use Rattle.laws.specs.Lines.{trimmed-lines}
 use Rattle.laws.specs.States.{table-lines}
 use Rattle.laws.specs.Runs.{runs-length}
-use Rattle.laws.specs.Encoded.{write-extents, trim-extents, extents-lines}
+use Rattle.laws.specs.Encoded.{write-extents, extents-lines}
 
 -- ---- new pages lie from their block's fill on
 

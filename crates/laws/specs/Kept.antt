@@ -17,7 +17,7 @@ use Rattle.rules.specs.Placement.{targets, puts, pieces}
 use Rattle.rules.specs.Request.{applied, judged, withTable, numbered, written, trimmed}
 use Rattle.rules.specs.Reclaim.{victim, sources, reclaimed}
 use Rattle.rules.specs.Read.{found}
-use Rattle.rules.specs.Answers.{Outcome, refuse}
+use Rattle.rules.specs.Answers.{refuse}
 use Rattle.rules.specs.Calls.{Call, outside, tooMany, writeRefusal, trimRefusal, readRefusal, reclaimRefusal, refusal, leaves, refused, verdict, acceptedOn, call}
 use Rattle.rules.specs.declared.Refusal.{Refusal}
 use Rattle.laws.specs.Bools.{or-split}
@@ -250,6 +250,3 @@ accepted-sound c s e =
     (ap shaped (a .after) ∙ good-shaped d g, ap sound (a .after) ∙ good-sound d g)
 
 -- ---- each rule allows one outcome: that of `call` for the five calls on a lent state, that of `fresh` for the sixth
-
-pub determined : (rule x y : Outcome Lent) → x ≡ rule → y ≡ rule → x ≡ y
-determined rule x y p q = p ∙ sym q

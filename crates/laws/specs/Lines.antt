@@ -11,12 +11,11 @@ use lib.ListN.{length, getD, replicate, length-replicate}
 use lib.Seq.{sets, length-sets}
 use Rattle.rules.specs.Counting.{count}
 use Rattle.rules.specs.Extents.{none}
-use Rattle.rules.specs.Device.{Device, blocks, lines, at, label, room, mapped, live, stale, free}
+use Rattle.rules.specs.Device.{Device, blocks, lines, at, label, room, mapped, live, free}
 use Rattle.rules.specs.Placement.{puts}
 use Rattle.rules.specs.Request.{withTable, numbered, written, trimmed}
 use Rattle.laws.specs.Cells.{sets-in, sets-other, replicate-at, count-wiped}
 use Rattle.laws.specs.Device.{Sound}
-use Rattle.laws.specs.Balance.{balance}
 use Rattle.laws.specs.Order.{puts-all}
 
 -- lines may become holes
@@ -89,8 +88,3 @@ trimmed-pages k l n d = refl
 pub trimmed-live : (k l n : ℕ) (d : Device) → l + n ≤ lines d → live (trimmed k l n d) + count n (λ i. mapped d (l + i)) ≡ live d
 unfolding trimmed withTable live mapped
 trimmed-live k l n d h = count-wiped none (λ p. not (eqb p none)) refl n (d .table) l h
-
--- what a trim makes of live pages is stale
-pub trimmed-stale : (k l n : ℕ) (d : Device) → Sound d → l + n ≤ lines d → stale (trimmed k l n d) ≡ stale d + count n (λ i. mapped d (l + i))
-trimmed-stale k l n d s h =
-    omega (arith, trimmed-live k l n d h, trimmed-free k l n d, balance d s, balance (trimmed k l n d) (trimmed-sound k l n d s h), trimmed-size k l n d, trimmed-pages k l n d)

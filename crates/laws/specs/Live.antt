@@ -1,17 +1,17 @@
 -- A page is live when a line names it. In a sound device that line is the page's label, and only programmed pages are live.
 use Prim.Native.Nat.{ℕ, zero, suc, _+_, _*_, _≤_, _<_}
 use mathlib.Core.Path.{_≡_, sym, ap, _∙_}
-use mathlib.Core.Bool.{Bool, true, false, false≢true, true≢false}
+use mathlib.Core.Bool.{Bool, true, false, false≢true}
 use mathlib.Core.List.{List, [], _∷_}
 use native.Mathlib.Omega.{arith}
 use borrow.Author.Tests.{eq-eqb, eqb-true}
 use lib.Dec.{eqb}
 use lib.ListN.{length, getD}
-use Rattle.rules.specs.Counting.{among, count, picks}
+use Rattle.rules.specs.Counting.{among, count}
 use Rattle.rules.specs.Extents.{none}
 use Rattle.rules.specs.Device.{Device, blocks, at, fill, label, named}
 use Rattle.laws.specs.Bools.{cases, never, same-test}
-use Rattle.laws.specs.Picks.{picks-short, count-short}
+use Rattle.laws.specs.Picks.{count-short}
 use Rattle.laws.specs.Device.{Sound, same-block, same-offset, page-lt, offset-lt}
 
 -- ---- a number in a list
@@ -61,15 +61,6 @@ module _ (d : Device) (s : Sound d) (b : ℕ) (h : b < blocks d) where
       let r = stands (b * d .pages + o) (d .table) none e in
       ap (at d) (named-line o (r .line) k (r .is)) ∙ r .is
 
-  -- 01: a programmed page is stale when no logical page maps to it
-  pub stale-page : (o : ℕ) → o < d .pages → named d b o ≡ false → (l : ℕ) → at d l ≡ b * d .pages + o → ⊥
-  stale-page o k e l g = true≢false (sym (named-by o l k g) ∙ e)
-
-  pub page-stale : (o : ℕ) → ((l : ℕ) → at d l ≡ b * d .pages + o → ⊥) → named d b o ≡ false
-  unfolding named
-  page-stale o none-has =
-      never (named d b o) (λ e. let r = stands (b * d .pages + o) (d .table) none e in none-has (r .line) (r .is))
-
   pub named-live : (o : ℕ) → o < d .pages → named d b o ≡ liveAt d b o
   unfolding liveAt
   named-live o k =
@@ -95,9 +86,6 @@ module _ (d : Device) (s : Sound d) (b : ℕ) (h : b < blocks d) where
 
   pub named-blank : (o : ℕ) → fill d b ≤ o → o < d .pages → named d b o ≡ false
   named-blank o f k = never (named d b o) (λ e. omega (arith, named-below o k e))
-
-  pub picks-named : picks (d .pages) (named d b) ≡ picks (fill d b) (named d b)
-  picks-named = picks-short (fill d b) (d .pages) (named d b) (s .full b h) named-blank
 
   pub count-named : count (d .pages) (named d b) ≡ count (fill d b) (named d b)
   count-named = count-short (fill d b) (d .pages) (named d b) (s .full b h) named-blank

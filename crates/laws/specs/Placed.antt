@@ -2,21 +2,17 @@
 use Prim.Native.Nat.{ℕ, zero, suc, _+_, _*_, _/_, _≤_, _<_}
 use mathlib.Core.Path.{_≡_, refl, sym, ap, _∙_}
 use mathlib.Core.List.{List, [], _∷_}
-use mathlib.Core.Bool.{Bool, not}
+use mathlib.Core.Bool.{not}
 use mathlib.Core.Logic.{by-cases}
 use native.Mathlib.Omega.{arith}
 use native.Mathlib.Decide.{decLt, ℕ-discrete}
-use borrow.Author.Tests.{ne-eqb}
 use lib.Arith.{digits-lt, digits-div}
-use lib.Dec.{eqb}
 use lib.ListN.{length, getD, set, replicate, length-set, List·getD-eq-default}
 use lib.Seq.{sets, getD-set-same, getD-set-other}
-use Rattle.rules.specs.Counting.{count}
 use Rattle.rules.specs.Extents.{none}
-use Rattle.rules.specs.Device.{Device, blocks, lines, at, fill, label, room, mapped, live, free}
+use Rattle.rules.specs.Device.{Device, blocks, lines, at, fill, label, room, mapped, free}
 use Rattle.rules.specs.Placement.{putAt, putsAt, placesAt}
-use Rattle.laws.specs.Sums.{sum-change, count-all}
-use Rattle.laws.specs.Cells.{count-sets}
+use Rattle.laws.specs.Sums.{sum-change}
 use Rattle.laws.specs.Device.{Home, Sound, Blank, same-block, same-offset, page-lt, offset-lt}
 use Rattle.laws.specs.Balance.{room-other, room-reserve}
 
@@ -241,21 +237,6 @@ places-small l bs d s v h i =
     by-cases (decLt i (length bs))
     (λ t. omega (arith, places-lt l bs d s v h i t))
     (λ t. omega (arith, List·getD-eq-default (placesAt l bs d) none {n = i} (omega (arith, length-places l bs d))))
-
--- lines that had a page keep the count
-pub puts-live : (l : ℕ) (bs : List ℕ) (d : Device) → Sound d → Opens l bs d → l + length bs ≤ lines d
-    → live (putsAt l bs d) + count (length bs) (λ i. mapped d (l + i)) ≡ live d + length bs
-unfolding live mapped
-puts-live l bs d s v h =
-    let ps = placesAt l bs d in
-    let n = length-places l bs d in
-    let t : ℕ → Bool = λ p. not (eqb p none) in
-    rw (puts-table l bs d) (omega (
-      arith,
-      count-sets none t ps (d .table) l (omega arith),
-      ap (λ (x : ℕ). count x (λ i. t (getD (d .table) (l + i) none))) n,
-      count-all (length ps) (λ i. t (getD ps i none)) (λ i a. ap not (ne-eqb (getD ps i none) none (λ e. omega (arith, places-lt l bs d s v h i (omega arith))))),
-    ))
 
 -- a block with room for all of them may take them all
 pub block-open : (b l n : ℕ) (d : Device) → Sound d → b < blocks d → n ≤ room d b → l + n ≤ lines d → Opens l (replicate n b) d

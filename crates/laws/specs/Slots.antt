@@ -66,10 +66,6 @@ module _ (ws : List ℕ) (i : ℕ) (e : Extent) where
   twice-length : length twice ≡ length ws
   twice-length = length-set once (3 * i + 1) (e .physical) ∙ length-set ws (3 * i) (e .logical)
 
-  pub put-slot-length : length (putSlot ws i e) ≡ length ws
-  unfolding putSlot
-  put-slot-length = length-set twice (3 * i + 2) (e .count) ∙ twice-length
-
   -- it is the extent there
   pub put-slot-here : 3 * i + 2 < length ws → slot (putSlot ws i e) i ≡ e
   unfolding putSlot

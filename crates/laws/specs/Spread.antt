@@ -56,11 +56,6 @@ unfoldable pub labelled : List Extent → List ℕ → List ℕ
 labelled [] s = s
 labelled (e ∷ es) s = labelled es (sets s (e .physical) (tabulate (e .count) (λ i. e .logical + i)))
 
--- the page of the first piece, or 0 where there is none
-unfoldable pub firstPage : List Extent → ℕ
-firstPage [] = 0
-firstPage (e ∷ es) = e .physical
-
 pub listed-none : (e : Extent) (es : List Extent) → e .count ≡ 0 → listed e es ≡ es
 unfolding listed
 listed-none e es h = rw (eq-eqb (e .count) 0 h)
@@ -108,15 +103,6 @@ module _ (n reserve b f want : ℕ) where
   pub taken-open : (b ≡ reserve → ⊥) → f < n → 0 < want → 0 < taken n reserve b f want
   unfolding taken
   taken-open e h k = omega (arith, room-other n reserve b f e)
-
-  -- a block without room for one page takes none of any number, and one with room takes some
-  pub taken-none : taken n reserve b f 1 ≡ 0 → taken n reserve b f want ≡ 0
-  unfolding taken
-  taken-none h = omega arith
-
-  pub taken-some : 0 < taken n reserve b f 1 → 0 < want → 0 < taken n reserve b f want
-  unfolding taken
-  taken-some h k = omega arith
 
 module _ (n reserve f : ℕ) (fs : List ℕ) (b l want : ℕ) where
   pub spread-skip : taken n reserve b f want ≡ 0 → spread n reserve (f ∷ fs) b l want ≡ spread n reserve fs (b + 1) l want

@@ -12,7 +12,7 @@ use lib.Arith.{digits-div, digits-mod, digits-lt}
 use lib.ListN.{length, getD, drop, replicate, length-append, length-replicate, length-drop, take-append-drop, List·getD-eq-default}
 use lib.Seq.{ext-getD, getD-drop, getD-append-add}
 use Rattle.rules.specs.Counting.{sum, count, tabulate}
-use Rattle.rules.specs.Extents.{none, lookup, slotsFrom, flat}
+use Rattle.rules.specs.Extents.{none, lookup, flat}
 use Rattle.rules.specs.Lent.{Lent, slotOf, inUse, fillOf, validOf, labelOf}
 use Rattle.rules.specs.Shape.{shaped}
 use Rattle.rules.specs.Sound.{sound}

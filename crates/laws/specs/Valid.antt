@@ -1,7 +1,7 @@
 -- Valid counts after each call, block by block, from those before it.
 use Prim.Native.Nat.{ℕ, _+_, _/_, _≤_, _<_}
 use mathlib.Core.Path.{_≡_, ap}
-use mathlib.Core.List.{List, [], _∷_}
+use mathlib.Core.List.{List}
 use mathlib.Core.Bool.{Bool}
 use native.Mathlib.Omega.{arith}
 use lib.Dec.{eqb}
@@ -10,14 +10,14 @@ use borrow.Author.Tests.{ne-eqb}
 use Rattle.rules.specs.Counting.{one, count}
 use Rattle.rules.specs.Extents.{none}
 use Rattle.rules.specs.Device.{Device, blocks, lines, at, valid}
-use Rattle.rules.specs.Placement.{putAt, putsAt, placesAt}
+use Rattle.rules.specs.Placement.{putsAt, placesAt}
 use Rattle.rules.specs.Request.{withTable, trimmed}
 use Rattle.rules.specs.Reclaim.{reclaimedAt}
 use Rattle.laws.specs.Sums.{count-same}
 use Rattle.laws.specs.Cells.{count-sets, count-wiped}
 use Rattle.laws.specs.Device.{Sound, none-block}
 use Rattle.laws.specs.Balance.{valid-lines, valid-stale}
-use Rattle.laws.specs.Placed.{Open, Opens, puts-table, puts-pages, puts-sound, length-places, places-block}
+use Rattle.laws.specs.Placed.{Opens, puts-table, puts-pages, puts-sound, length-places, places-block}
 use Rattle.laws.specs.Lines.{trimmed-sound}
 use Rattle.laws.specs.Reclaimed.{re-blocks, re-sound, re-fill-victim, re-fill-reserve, re-fill, re-stale-reserve, re-stale-other}
 
@@ -48,13 +48,6 @@ puts-valid l bs d s v h c a =
       puts-lines-in l bs d v h c,
       valid-lines d s c a,
     )
-
-pub put-valid : (d : Device) (s : Sound d) (b : ℕ) (v : Open d b) (l : ℕ) (a : l < lines d) (c : ℕ) → c < blocks d
-    → valid (putAt b l d) c + one (eqb (at d l / d .pages) c) ≡ valid d c + one (eqb b c)
-unfolding putsAt count
-put-valid d s b v l a c h =
-    let e : l + 0 ≡ l = omega arith in
-    omega (arith, puts-valid l (b ∷ []) d s (v, tt) (omega arith) c h, ap (λ (x : ℕ). one (eqb (at d x / d .pages) c)) e)
 
 -- a trim: one less for each line of the range that was in the block, and only once
 pub trim-valid : (k l n : ℕ) (d : Device) → Sound d → l + n ≤ lines d → (c : ℕ) → c < blocks d
