@@ -18,7 +18,8 @@ use Rattle.laws.specs.Device.{Sound}
 use Rattle.laws.specs.Shapes.{lines-pages, pages-high, pages-fit}
 use Rattle.laws.specs.Slots.{slots-length}
 use Rattle.laws.specs.States.{device-blocks, device-lines, device-words, extents-in-use, sane-good}
-use Rattle.laws.specs.Reclaimed.{Chosen, victim-chosen, re-blocks, re-lines}
+use Rattle.laws.specs.Reclaimed.{re-blocks, re-lines}
+use Rattle.laws.specs.Gains.{Chosen, victim-chosen}
 use Rattle.laws.specs.Encoded.{reclaim-shrinks}
 use Rattle.choosing.specs.Covered.{covered}
 use Rattle.choosing.specs.Ranks.{Ranks, rises, ranks-rise}

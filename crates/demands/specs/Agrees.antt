@@ -14,7 +14,8 @@ use Rattle.laws.specs.Cells.{length-tabulate, getD-tabulate, sets-tells, replic
 use Rattle.laws.specs.Device.{Sound}
 use Rattle.laws.specs.Order.{length-targets, targets-open, puts-all}
 use Rattle.laws.specs.Lines.{trimmed-lines}
-use Rattle.laws.specs.Reclaimed.{victim-chosen, re-lines}
+use Rattle.laws.specs.Reclaimed.{re-lines}
+use Rattle.laws.specs.Gains.{victim-chosen}
 use Rattle.demands.specs.Flash.{Cell, value, Seen, hole, cell, contents}
 use Rattle.demands.specs.Shows.{Clean, program, write-shows, trim-clean, trim-shows, trim-keeps, vacate, vacate-clean, vacate-keeps}
 

@@ -24,7 +24,7 @@ use Rattle.laws.specs.Sane.{Good}
 use Rattle.laws.specs.Placed.{puts-table, length-places}
 use Rattle.laws.specs.Order.{puts-all, length-targets}
 use Rattle.laws.specs.Lines.{trimmed-lines, trimmed-other}
-use Rattle.laws.specs.Reclaimed.{reclaim-all}
+use Rattle.laws.specs.Gains.{reclaim-all}
 use Rattle.laws.specs.States.{device-lines, device-blocks, words-device, words-valid}
 use Rattle.laws.specs.Kept.{refuse-none, taken, keeps, device-good, device-is, accepted-in, accepted-sound}
 use Rattle.demands.specs.Flash.{Cell}

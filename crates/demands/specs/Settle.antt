@@ -14,7 +14,7 @@ use Rattle.rules.specs.Reclaim.{reclaimed}
 use Rattle.laws.specs.Sums.{count-lt}
 use Rattle.laws.specs.Device.{Sound}
 use Rattle.laws.specs.Balance.{balance, live-le, stale-reserve}
-use Rattle.laws.specs.Reclaimed.{staleBlocks, reclaim-all}
+use Rattle.laws.specs.Gains.{staleBlocks, reclaim-all}
 
 -- at most k reclaims, none once nothing is stale
 unfoldable pub settle : ℕ → Device → Device

@@ -20,7 +20,8 @@ use Rattle.rules.specs.Calls.{Call, refusal, counts, leaves, lists, buffer, acc
 use Rattle.rules.specs.declared.Last.{Last}
 use Rattle.laws.specs.Placed.{puts-slots}
 use Rattle.laws.specs.Order.{length-placed}
-use Rattle.laws.specs.Reclaimed.{staleBlocks, few-sources, victim-chosen, reclaim-all}
+use Rattle.laws.specs.Reclaimed.{few-sources}
+use Rattle.laws.specs.Gains.{staleBlocks, victim-chosen, reclaim-all}
 use Rattle.demands.specs.Settle.{settle, settle-done, settle-more, Settled, settle-ends, stale-blocks-lt, never-stuck}
 use Rattle.demands.specs.Flash.{Cell, Seen, hole}
 use Rattle.laws.specs.Sane.{Good}

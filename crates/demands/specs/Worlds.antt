@@ -25,7 +25,8 @@ use Rattle.laws.specs.Slots.{slots-flat}
 use Rattle.laws.specs.Device.{Sound}
 use Rattle.laws.specs.Placed.{places-lt}
 use Rattle.laws.specs.Order.{length-targets, targets-open, length-placed}
-use Rattle.laws.specs.Reclaimed.{length-sources, few-sources, victim-chosen}
+use Rattle.laws.specs.Reclaimed.{length-sources, few-sources}
+use Rattle.laws.specs.Gains.{victim-chosen}
 use Rattle.demands.specs.Flash.{Cell, erased, Seen, hole, see, contents}
 use Rattle.demands.specs.Shows.{vacate, vacate-ready}
 use Rattle.laws.specs.Sane.{Good}

@@ -20,7 +20,8 @@ use Rattle.laws.specs.Norm.{norm, norm-length, move, Steadies, move-runs
 use Rattle.laws.specs.Device.{Sound, none-block}
 use Rattle.laws.specs.Placed.{Opens, puts-table, puts-pages, length-places, places-small}
 use Rattle.laws.specs.States.{table-lines}
-use Rattle.laws.specs.Reclaimed.{goes-hole, within, victim-chosen}
+use Rattle.laws.specs.Reclaimed.{goes-hole, within}
+use Rattle.laws.specs.Gains.{victim-chosen}
 
 -- a write: the pieces of the answer, put in between what lies below the range and what lies above it
 pub write-extents : (l : ℕ) (bs : List ℕ) (d : Device) → Sound d → Opens l bs d → l + length bs ≤ lines d

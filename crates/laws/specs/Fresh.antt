@@ -64,6 +64,5 @@ module _ (b n l m : ℕ) (some : 0 < n) (few : 0 < b) (words : b * n ≤ none) w
   unfolding freshDevice
   fresh-size = ap (λ (x : ℕ). (x - 1) * n) (fresh-blocks b n l m)
 
-
   pub fresh-free : free (freshDevice b n l m) ≡ (b - 1) * n
   fresh-free = omega (arith, balance′ (freshDevice b n l m) fresh-sound, fresh-size, fresh-live b n l m, fresh-stale)

@@ -25,7 +25,7 @@ use Rattle.laws.specs.Device.{Sound}
 use Rattle.laws.specs.Placed.{puts-pages, puts-slots}
 use Rattle.laws.specs.Order.{puts-all}
 use Rattle.laws.specs.Lines.{written-sound, trimmed-lines, trimmed-sound}
-use Rattle.laws.specs.Reclaimed.{reclaim-all}
+use Rattle.laws.specs.Gains.{reclaim-all}
 use Rattle.laws.specs.Encoded.{reclaim-shrinks}
 use Rattle.laws.specs.Balance.{balance′}
 use Rattle.laws.specs.States.{device-blocks, good-shaped, good-sound, sound-iff}

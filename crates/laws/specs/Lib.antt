@@ -20,6 +20,7 @@ pub mod Spread
 pub mod Order
 pub mod Lines
 pub mod Reclaimed
+pub mod Gains
 pub mod Valid
 pub mod Fresh
 pub mod Sane

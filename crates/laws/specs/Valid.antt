@@ -19,7 +19,8 @@ use Rattle.laws.specs.Device.{Sound, none-block}
 use Rattle.laws.specs.Balance.{valid-lines, valid-stale}
 use Rattle.laws.specs.Placed.{Opens, puts-table, puts-pages, puts-sound, length-places, places-block}
 use Rattle.laws.specs.Lines.{trimmed-sound}
-use Rattle.laws.specs.Reclaimed.{re-blocks, re-sound, re-fill-victim, re-fill-reserve, re-fill, re-stale-reserve, re-stale-other}
+use Rattle.laws.specs.Reclaimed.{re-blocks, re-sound, re-fill-victim, re-fill-reserve, re-fill}
+use Rattle.laws.specs.Gains.{re-stale-reserve, re-stale-other}
 
 -- pages put: one less where each line was, one more where it goes
 puts-lines-in : (l : ℕ) (bs : List ℕ) (d : Device) → Opens l bs d → l + length bs ≤ lines d → (c : ℕ)

@@ -20,7 +20,8 @@ use Rattle.laws.specs.Sums.{sum-zero, zero-sum}
 use Rattle.laws.specs.Picks.{most-lt, most-top}
 use Rattle.laws.specs.Sane.{Shaped, Sane}
 use Rattle.laws.specs.States.{device-blocks, device-fill, sane-good, valid-in-use}
-use Rattle.laws.specs.Reclaimed.{length-sources, victim-chosen}
+use Rattle.laws.specs.Reclaimed.{length-sources}
+use Rattle.laws.specs.Gains.{victim-chosen}
 use Rattle.blocks.specs.Totals.{sane-filled, device-stale}
 use Rattle.choosing.specs.Stale.{staleWord, victim-words}
 use Rattle.verdicts.specs.Refusals.{told, firstOf, roomed, over-not, first-then}
