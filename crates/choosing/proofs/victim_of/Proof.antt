@@ -17,48 +17,30 @@ abbrev μ-loop : tie.MeasureT-loop
 loop-holds : tie.Need-loop-holds Inv-loop μ-loop
 loop-holds c = (search needs, search needs, most-none _)
 
-cast-stale-of : tie.Need-cast-stale-of Inv-loop μ-loop
-cast-stale-of c = search needs
+abbrev start : tie.At-loop Inv-loop μ-loop → tie.Start Inv-loop μ-loop
+start w = w .before .before
 
 stale-of-requires : tie.Need-stale-of-requires Inv-loop μ-loop
-stale-of-requires c κs = (omega arith, c .before .before .before .pre .1 (c .before .loop .v) (omega arith))
-
-cast-stale-of-2 : tie.Need-cast-stale-of-2 Inv-loop μ-loop
-cast-stale-of-2 c = search needs
+stale-of-requires c κs = (omega arith, start (c .before) .pre .1 (c .before .loop .v) (omega arith))
 
 stale-of-requires-2 : tie.Need-stale-of-requires-2 Inv-loop μ-loop
-stale-of-requires-2 c κs = (omega arith, c .before .before .before .before .pre .1 (c .before .before .loop .b) (omega arith))
-
-add-b : tie.Need-add-b Inv-loop μ-loop
-add-b c = search needs
-
-loop-less : tie.Need-loop-less Inv-loop μ-loop
-loop-less c = search needs
+stale-of-requires-2 c κs = (omega arith, start (c .before .before) .pre .1 (c .before .before .loop .b) (omega arith))
 
 loop-again : tie.Need-loop-again Inv-loop μ-loop
-loop-again c = (
-  search needs,
-  ⊎-elim (λ w. omega arith) (λ w. omega arith) (c .if1 .came),
-  ⊎-elim (λ w. rw (w .1) (most-more _ _ _ (c .before .before .before .before .loop .inv .2) (omega arith)))
-      (λ w. rw (w .1) (most-stays _ _ _ (c .before .before .before .before .loop .inv .2) (omega arith)))
-      (c .if1 .came),
-)
+loop-again c =
+    let o = c .before .before .before .before .loop in (
+      search needs,
+      ⊎-elim (λ w. omega arith) (λ w. omega arith) (c .if1 .came),
+      ⊎-elim (λ w. rw (w .1) (most-more _ _ _ (o .inv .2) (omega arith)))
+          (λ w. rw (w .1) (most-stays _ _ _ (o .inv .2) (omega arith)))
+          (c .if1 .came),
+    )
 
 returns : tie.Need-returns Inv-loop μ-loop
-returns c = c .before .loop .inv .2 ∙ ap (λ (k : ℕ). most k (staleWord (c .before .before .before .args .blk .now))) (omega arith)
+returns c = c .before .loop .inv .2 ∙ ap (λ (k : ℕ). most k (staleWord (start (c .before) .args .blk .now))) (omega arith)
 
 pub victim-of-spec : {M : Type 1} → statement M
 victim-of-spec =
     tie.close
-    (tie.spec
-    Inv-loop
-    μ-loop
-    loop-holds
-    cast-stale-of
-    stale-of-requires
-    cast-stale-of-2
-    stale-of-requires-2
-    add-b
-    loop-less
-    loop-again
-    returns)
+    (tie.spec Inv-loop μ-loop loop-holds (search needs) stale-of-requires (search needs) stale-of-requires-2
+    (search needs) (search needs) loop-again returns)
