@@ -53,5 +53,5 @@ returns c =
 pub add-up-spec : {M : Type 1} → statement M
 add-up-spec =
     tie.close
-    (tie.spec Inv-loop μ-loop loop-holds (search needs) (search needs) (search needs) (search needs) add-k
-    (search needs) (search needs) loop-again (search needs) (search needs) same-length returns)
+    (tie.spec Inv-loop μ-loop loop-holds (λ c. search needs) (λ c. search needs) (λ c. search needs) (λ c. search needs) add-k
+    (λ c. search needs) (λ c. search needs) loop-again (λ c. search needs) (λ c. search needs) same-length returns)

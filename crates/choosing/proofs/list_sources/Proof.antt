@@ -67,6 +67,6 @@ returns c =
 pub list-sources-spec : {M : Type 1} → statement M
 list-sources-spec =
     tie.close
-    (tie.spec Inv-loop μ-loop loop-holds (search needs) (search needs) (search needs) (search needs) (search needs)
-    (search needs) (search needs) (search needs) cast-out mul-out-2 slice-write-out (search needs) (search needs)
-    loop-again (search needs) returns)
+    (tie.spec Inv-loop μ-loop loop-holds (λ c. search needs) (λ c. search needs) (λ c. search needs) (λ c. search needs)
+    (λ c. search needs) (λ c. search needs) (λ c. search needs) (λ c. search needs) cast-out mul-out-2 slice-write-out (λ c. search needs)
+    (λ c. search needs) loop-again (λ c. search needs) returns)

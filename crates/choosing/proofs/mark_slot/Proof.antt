@@ -20,6 +20,7 @@ returns-2 c =
 pub mark-slot-spec : {M : Type 1} → statement M
 mark-slot-spec =
     tie.close
-    (tie.spec (search needs) (search needs) (search needs) (search needs) (search needs) returns (search needs)
-    (search needs) (search needs) (search needs) (search needs) (search needs) (search needs) (search needs)
-    (search needs) (search needs) (λ c. omega arith) (λ c κs. search needs) (search needs) returns-2)
+    (tie.spec (λ c. search needs) (λ c. search needs) (λ c. search needs) (λ c. search needs) (λ c. search needs) returns
+    (λ c. search needs) (λ c. search needs) (λ c. search needs) (λ c. search needs) (λ c. search needs) (λ c. search needs)
+    (λ c. search needs) (λ c. search needs) (λ c. search needs) (λ c. search needs) (λ c. omega arith) (λ c κs. search needs)
+    (λ c. search needs) returns-2)

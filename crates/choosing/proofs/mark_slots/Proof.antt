@@ -45,5 +45,4 @@ returns c =
 pub mark-slots-spec : {M : Type 1} → statement M
 mark-slots-spec =
     tie.close
-    (tie.spec Inv-loop μ-loop loop-holds mark-slot-requires (search needs) (search needs) loop-again (search needs)
-    returns)
+    (tie.spec Inv-loop μ-loop loop-holds mark-slot-requires (λ c. search needs) (λ c. search needs) loop-again (λ c. search needs) returns)

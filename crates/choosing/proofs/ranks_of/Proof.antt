@@ -30,4 +30,4 @@ returns c =
 
 pub ranks-of-spec : {M : Type 1} → statement M
 ranks-of-spec =
-    tie.close (tie.spec (search needs) mark-slots-requires (search needs) add-up-requires returns)
+    tie.close (tie.spec (λ c. search needs) mark-slots-requires (λ c. search needs) add-up-requires returns)

@@ -42,5 +42,5 @@ returns c = c .before .loop .inv .2 ∙ ap (λ (k : ℕ). most k (staleWord (sta
 pub victim-of-spec : {M : Type 1} → statement M
 victim-of-spec =
     tie.close
-    (tie.spec Inv-loop μ-loop loop-holds (search needs) stale-of-requires (search needs) stale-of-requires-2
-    (search needs) (search needs) loop-again returns)
+    (tie.spec Inv-loop μ-loop loop-holds (λ c. search needs) stale-of-requires (λ c. search needs) stale-of-requires-2 (λ c. search needs)
+    (λ c. search needs) loop-again returns)

@@ -49,5 +49,6 @@ returns c =
 pub copy-labels-spec : {M : Type 1} → statement M
 copy-labels-spec =
     tie.close
-    (tie.spec Inv-loop μ-loop loop-holds (search needs) (search needs) cast-label mul-label-2 slice-read-label
-    (search needs) (search needs) (search needs) (search needs) (search needs) loop-again (search needs) returns)
+    (tie.spec Inv-loop μ-loop loop-holds (λ c. search needs) (λ c. search needs) cast-label mul-label-2 slice-read-label
+    (λ c. search needs) (λ c. search needs) (λ c. search needs) (λ c. search needs) (λ c. search needs) loop-again (λ c. search needs)
+    returns)

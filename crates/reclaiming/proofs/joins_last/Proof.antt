@@ -19,4 +19,4 @@ returns-2 c =
 
 pub joins-last-spec : {M : Type 1} → statement M
 joins-last-spec =
-    tie.close (tie.spec returns (search needs) (λ c κs. search needs) (λ c κs. search needs) returns-2)
+    tie.close (tie.spec returns (λ c. search needs) (λ c κs. search needs) (λ c κs. search needs) returns-2)

@@ -20,4 +20,5 @@ returns c =
 
 pub move-blocks-spec : {M : Type 1} → statement M
 move-blocks-spec =
-    tie.close (tie.spec (λ c κs. search needs) (λ c κs. search needs) (λ c κs. search needs) (search needs) returns)
+    tie.close
+    (tie.spec (λ c κs. search needs) (λ c κs. search needs) (λ c κs. search needs) (λ c. search needs) returns)

@@ -21,5 +21,5 @@ returns c =
 pub move-labels-spec : {M : Type 1} → statement M
 move-labels-spec =
     tie.close
-    (tie.spec (search needs) (search needs) copy-labels-requires (search needs) (search needs) (search needs)
-    (search needs) (search needs) (λ c κs. search needs) (search needs) returns)
+    (tie.spec (λ c. search needs) (λ c. search needs) copy-labels-requires (λ c. search needs) (λ c. search needs) (λ c. search needs)
+    (λ c. search needs) (λ c. search needs) (λ c κs. search needs) (λ c. search needs) returns)

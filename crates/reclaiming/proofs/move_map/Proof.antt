@@ -86,6 +86,6 @@ returns c =
 pub move-map-spec : {M : Type 1} → statement M
 move-map-spec =
     tie.close
-    (tie.spec Inv-loop μ-loop loop-holds slot-after-requires push-slot-requires (search needs) (search needs)
-    loop-again (search needs) (search needs) (search needs) (search needs) (search needs) (λ c κs. search needs)
-    (search needs) returns)
+    (tie.spec Inv-loop μ-loop loop-holds slot-after-requires push-slot-requires (λ c. search needs) (λ c. search needs) loop-again
+    (λ c. search needs) (λ c. search needs) (λ c. search needs) (λ c. search needs) (λ c. search needs) (λ c κs. search needs)
+    (λ c. search needs) returns)

@@ -38,5 +38,5 @@ returns-2 c =
 pub page-after-spec : {M : Type 1} → statement M
 page-after-spec =
     tie.close
-    (tie.spec (search needs) returns (search needs) cast-o (search needs) mul-result-2 shared-slice-read-result
-    add-result returns-2)
+    (tie.spec (λ c. search needs) returns (λ c. search needs) cast-o (λ c. search needs) mul-result-2 shared-slice-read-result add-result
+    returns-2)

@@ -59,5 +59,5 @@ returns-2 c =
 pub push-slot-spec : {M : Type 1} → statement M
 push-slot-spec =
     tie.close
-    (tie.spec (λ c κs. search needs) sub-at mul-at add-at mul-ext slice-read-ext add-ext slice-write-ext same-length
-    returns (λ c κs. search needs) (search needs) (search needs) returns-2)
+    (tie.spec (λ c κs. search needs) sub-at mul-at add-at mul-ext slice-read-ext add-ext slice-write-ext same-length returns
+    (λ c κs. search needs) (λ c. search needs) (λ c. search needs) returns-2)

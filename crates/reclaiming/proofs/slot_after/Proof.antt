@@ -12,5 +12,5 @@ returns c =
 pub slot-after-spec : {M : Type 1} → statement M
 slot-after-spec =
     tie.close
-    (tie.spec (search needs) (search needs) (search needs) (search needs) (λ c κs. search needs) (search needs)
-    (search needs) (search needs) (search needs) (search needs) returns)
+    (tie.spec (λ c. search needs) (λ c. search needs) (λ c. search needs) (λ c. search needs) (λ c κs. search needs) (λ c. search needs)
+    (λ c. search needs) (λ c. search needs) (λ c. search needs) (λ c. search needs) returns)
