@@ -18,14 +18,17 @@ start w = w .before .before .before .before
 
 returns-2 : tie.Need-returns-2
 returns-2 c =
-    let a = start (c .before) .args in
-    says-no (labels-no (a .fill) (a .top) (a .part .now) (omega arith) (c .before .all-below .result) (c .before .all-below .ensures) (c .if2 .taken))
+    let b = c .before in
+    let a = start b .args in
+    says-no (labels-no (a .fill) (a .top) (a .part .now) (omega arith) (b .all-below .result) (b .all-below .ensures) (c .if2 .taken))
 
 returns-3 : tie.Need-returns-3
 returns-3 c =
-    let al = c .before .before .before in
-    let a = start al .args in
-    labels-says (a .fill) (a .top) (a .part .now) (omega arith) (al .all-below .result) (c .all-are .result) (al .all-below .ensures) (c .before .before .if2 .left) (c .all-are .ensures)
+    let t = c .before .before in
+    let b = t .before in
+    let a = start b .args in
+    labels-says (a .fill) (a .top) (a .part .now) (omega arith) (b .all-below .result) (c .all-are .result)
+    (b .all-below .ensures) (t .if2 .left) (c .all-are .ensures)
 
 pub block-ok-spec : {M : Type 1} → statement M
 block-ok-spec =

@@ -1,7 +1,8 @@
 -- Block by block: what is refused refuses all.
-use Prim.Native.Nat.{_-_}
+use Prim.Native.Nat.{_+_, _*_, _-_, _≤_}
 use mathlib.Core.Path.{sym, _∙_}
 use native.Mathlib.Omega.{arith}
+use lib.ListN.{length}
 use borrow.Author.Needs.{needs}
 use Rattle.words.specs.Says.{says-yes, says-no, told-yes, told-no}
 use Rattle.blocks.specs.Block.{Passed, passed-start, passed-step, passed-end, block-ends, block-labels, labels-block}
@@ -20,17 +21,21 @@ loop-holds c = passed-start
 abbrev start : tie.In-loop Inv-loop μ-loop → tie.Start Inv-loop μ-loop
 start w = w .before .before .before .before .before
 
+-- the block's pages end within the spare area
+ends : (w : tie.In-loop Inv-loop μ-loop) → let a = start w .args in w .before .loop .b * a .n + a .n ≤ length (a .spare .now)
+ends w = block-ends {b = w .before .loop .b} (start w .pre) (omega arith)
+
 mul-from : tie.Need-mul-from Inv-loop μ-loop
-mul-from c = omega (arith, block-ends {b = c .before .loop .b} (start c .pre) (omega arith))
+mul-from c = omega (arith, ends c)
 
 add-to : tie.Need-add-to Inv-loop μ-loop
-add-to c = omega (arith, block-ends {b = c .before .loop .b} (start c .pre) (omega arith))
+add-to c = omega (arith, ends c)
 
 mul-block-ok : tie.Need-mul-block-ok Inv-loop μ-loop
-mul-block-ok c = omega (arith, block-ends {b = c .before .before .loop .b} (start (c .before) .pre) (omega arith))
+mul-block-ok c = omega (arith, ends (c .before))
 
 part-block-ok-end : tie.Need-part-block-ok-end Inv-loop μ-loop
-part-block-ok-end c = block-ends {b = c .before .before .loop .b} (start (c .before) .pre) (omega arith)
+part-block-ok-end c = ends (c .before)
 
 returns : tie.Need-returns Inv-loop μ-loop
 returns c =
@@ -43,13 +48,14 @@ returns-2 c = says-no (λ g. c .if2 .taken (c .before .before .valid-of .ensures
 
 loop-again : tie.Need-loop-again Inv-loop μ-loop
 loop-again c =
-    let t = c .before .before .before in
+    let v = c .before .before in
+    let t = v .before in
     let b = t .before in
     let f = b .before .before in
-    let w = f .before .before in
+    let w = f .before in
     let g = told-yes (b .block-ok .result) (b .block-ok .ensures) (t .if1 .left) in
-    passed-step _ (w .loop .inv) (search needs)
-    (labels-block (start (f .before) .pre) (search needs) _ _ (f .fill-of .ensures) g (sym (c .before .before .valid-of .ensures) ∙ c .if2 .left))
+    passed-step _ (w .before .loop .inv) (search needs)
+    (labels-block (start w .pre) (search needs) _ _ (f .fill-of .ensures) g (sym (v .valid-of .ensures) ∙ c .if2 .left))
 
 returns-3 : tie.Need-returns-3 Inv-loop μ-loop
 returns-3 c = says-yes (passed-end _ (c .before .loop .inv) (search needs))

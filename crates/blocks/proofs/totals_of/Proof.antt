@@ -1,6 +1,7 @@
 -- One turn adds one block to each of the three sums.
-use Prim.Native.Nat.{_-_}
+use Prim.Native.Nat.{_-_, _≤_}
 use native.Mathlib.Omega.{arith}
+use Rattle.rules.specs.Blocks.{fillWord, validWord}
 use borrow.Author.Needs.{needs}
 use Rattle.blocks.specs.Totals.{Summed, summed-start, summed-step, summed-end, room-few}
 use Rattle.blocks.proofs.totals_of.Statement.{statement}
@@ -18,41 +19,36 @@ loop-holds c = summed-start _ _
 abbrev start : tie.After-valid-of Inv-loop μ-loop → tie.Start Inv-loop μ-loop
 start w = w .before .before .before .before .before .before
 
+-- the block that is added
+filled : (v : tie.After-valid-of Inv-loop μ-loop) → let a = start v .args in let b = v .before .before .before .before .loop .b in
+    (fillWord (a .blk .now) b ≤ a .h .pages) × (validWord (a .blk .now) b ≤ fillWord (a .blk .now) b)
+filled v =
+    let p = start v .pre in
+    let b = v .before .before .before .before .loop .b in
+    (p .full b (omega arith), p .valid b (omega arith))
+
 room-of-requires : tie.Need-room-of-requires Inv-loop μ-loop
-room-of-requires c κs =
-    let w = c .before .before .before .before in
-    omega (arith, start c .pre .full (w .loop .b) (omega arith))
+room-of-requires c κs = omega (arith, filled c .0)
 
 add-free : tie.Need-add-free Inv-loop μ-loop
 add-free c =
-    let w = c .before .before .before .before .before in
-    let s = start (c .before) in
-    omega (arith, s .pre .blocks-high, room-few (s .args .h) (w .loop .b) (c .before .before .fill-of .result))
+    let v = c .before in
+    omega (arith, start v .pre .blocks-high, room-few (start v .args .h) (v .before .before .before .before .loop .b) (v .before .fill-of .result))
 
 add-live : tie.Need-add-live Inv-loop μ-loop
-add-live c =
-    let w = c .before .before .before .before .before in
-    let o = w .loop in
-    let s = start (c .before) in
-    omega (arith, s .pre .full (o .b) (omega arith), s .pre .valid (o .b) (omega arith))
+add-live c = omega (arith, filled (c .before) .0, filled (c .before) .1)
 
 sub-stale : tie.Need-sub-stale Inv-loop μ-loop
-sub-stale c =
-    let w = c .before .before .before .before .before in
-    omega (arith, start (c .before) .pre .valid (w .loop .b) (omega arith))
+sub-stale c = omega (arith, filled (c .before) .1)
 
 add-stale : tie.Need-add-stale Inv-loop μ-loop
-add-stale c =
-    let w = c .before .before .before .before .before in
-    let o = w .loop in
-    let s = start (c .before) in
-    omega (arith, s .pre .full (o .b) (omega arith), s .pre .valid (o .b) (omega arith))
+add-stale c = omega (arith, filled (c .before) .0, filled (c .before) .1)
 
 loop-again : tie.Need-loop-again Inv-loop μ-loop
 loop-again c =
-    let w = c .before .before .before .before .before in
-    summed-step _ _ _ _ _ _ _ _ _ (start (c .before) .pre) (search needs) (w .loop .inv)
-    (c .before .before .fill-of .ensures) (c .before .valid-of .ensures) (c .room-of .ensures)
+    let v = c .before in
+    summed-step _ _ _ _ _ _ _ _ _ (start v .pre) (search needs) (v .before .before .before .before .loop .inv)
+    (v .before .fill-of .ensures) (v .valid-of .ensures) (c .room-of .ensures)
 
 returns : tie.Need-returns Inv-loop μ-loop
 returns c = summed-end _ _ _ _ _ _ (c .before .before .loop .inv) (search needs)

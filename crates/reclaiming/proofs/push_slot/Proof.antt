@@ -10,7 +10,7 @@ abbrev start : tie.After-joins-last → tie.Start
 start w = w .before .before .before
 
 -- the slot that it is joined with
-last : (c : tie.Then1) → let a = c .before .before .before .before .args in Last (a .n) (a .ext .now) (a .w) (a .x)
+last : (c : tie.Then1) → let a = start (c .before) .args in Last (a .n) (a .ext .now) (a .w) (a .x)
 last c =
     let a = start (c .before) .args in
     joins-last (a .n) (a .ext .now) (a .w) (a .x) (sym (c .before .joins-last .ensures) ∙ c .if1 .taken)
