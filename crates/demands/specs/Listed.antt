@@ -148,5 +148,6 @@ module _ (n r : ℕ) where
           block = rw block h;
           next = rw (block, g) (ap (λ (x : ℕ). x % n) e ∙ digits-mod r (omega arith));
         },
-        rw (block, g) (copies-allowed (suc i) (suc to) ps (set m r (suc i)) (set f to (getD f p erased)) (omega arith) (omega (arith, length-set m r (suc i))) (getD-set-same m r (suc i) 0 h) (omega arith) (b .2)),
+        rw (block, g) (copies-allowed (suc i) (suc to) ps (set m r (suc i)) (set f to (getD f p erased))
+            (omega arith) (omega (arith, length-set m r (suc i))) (getD-set-same m r (suc i) 0 h) (omega arith) (b .2)),
       )

@@ -169,7 +169,8 @@ passes Call.report d t = refl
 
 -- ---- what an accepted call leaves is good
 
-sizes-same : (d e : Device) → e .pages ≡ d .pages → e .slots ≡ d .slots → blocks e ≡ blocks d → lines e ≡ lines d → Sizes (blocks d) (d .pages) (lines d) (d .slots) → Sizes (blocks e) (e .pages) (lines e) (e .slots)
+sizes-same : (d e : Device) → e .pages ≡ d .pages → e .slots ≡ d .slots → blocks e ≡ blocks d → lines e ≡ lines d
+    → Sizes (blocks d) (d .pages) (lines d) (d .slots) → Sizes (blocks e) (e .pages) (lines e) (e .slots)
 sizes-same d e p m b l z = rw (p, m, b, l) z
 
 -- the number is no part of the map
@@ -177,7 +178,8 @@ numbered-good : (k : ℕ) (e : Device) → Sizes (blocks e) (e .pages) (lines e)
 unfolding numbered withTable extents
 numbered-good k e z f s = record { sizes = z; sound = s; few = f }
 
-trimmed-sizes : (k l n : ℕ) (d : Device) → Sizes (blocks d) (d .pages) (lines d) (d .slots) → Sizes (blocks (trimmed k l n d)) (trimmed k l n d .pages) (lines (trimmed k l n d)) (trimmed k l n d .slots)
+trimmed-sizes : (k l n : ℕ) (d : Device) → Sizes (blocks d) (d .pages) (lines d) (d .slots)
+    → Sizes (blocks (trimmed k l n d)) (trimmed k l n d .pages) (lines (trimmed k l n d)) (trimmed k l n d .slots)
 unfolding trimmed withTable
 trimmed-sizes k l n d z = sizes-same d (trimmed k l n d) refl refl refl (trimmed-lines k l n d) z
 

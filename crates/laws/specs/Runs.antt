@@ -99,7 +99,14 @@ join-lookup n a (b ∷ bs) l =
     (λ s. by-cases (decLt l (a .logical + a .count))
     (λ t. lookup-in both bs l (omega arith) (omega arith) ∙ sym (lookup-in a (b ∷ bs) l (omega arith) t))
     (λ t. by-cases (decLt l (b .logical + b .count))
-    (λ u. omega (arith, j .logical, j .physical, lookup-in both bs l (omega arith) (omega (arith, j .logical)), lookup-after a (b ∷ bs) l (omega arith), lookup-in b bs l (omega (arith, j .logical)) u))
+    (λ u. omega (
+      arith,
+      j .logical,
+      j .physical,
+      lookup-in both bs l (omega arith) (omega (arith, j .logical)),
+      lookup-after a (b ∷ bs) l (omega arith),
+      lookup-in b bs l (omega (arith, j .logical)) u,
+    ))
     (λ u. omega (arith, lookup-after both bs l (omega (arith, j .logical)), lookup-after a (b ∷ bs) l (omega arith), lookup-after b bs l (omega arith)))))))
     (λ e. rw (join-apart n a b bs e) refl)
 

@@ -114,7 +114,8 @@ module _ (n reserve f : ℕ) (fs : List ℕ) (b l want : ℕ) where
       listed-none (extent l (b * n + f) m) (spread n reserve fs (b + 1) (l + m) (want - m)) e
       ∙ ap₂ (λ (x y : ℕ). spread n reserve fs (b + 1) x y) p q
 
-  pub spread-some : 0 < taken n reserve b f want → spread n reserve (f ∷ fs) b l want ≡ extent l (b * n + f) (taken n reserve b f want) ∷ spread n reserve fs (b + 1) (l + taken n reserve b f want) (want - taken n reserve b f want)
+  pub spread-some : 0 < taken n reserve b f want → spread n reserve (f ∷ fs) b l want
+      ≡ extent l (b * n + f) (taken n reserve b f want) ∷ spread n reserve fs (b + 1) (l + taken n reserve b f want) (want - taken n reserve b f want)
   unfolding spread
   spread-some h =
       let m = taken n reserve b f want in

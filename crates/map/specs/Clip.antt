@@ -261,7 +261,8 @@ module _ (ws : List ℕ) (u : ℕ) where
           let x = at-slot i t in
           let left = extent (slot ws i .logical) (slot ws i .physical) (l - slot ws i .logical) in
           q ∙ holds-put mid (u + 1) i left split-holds (omega arith)
-          ∙ ap₂ (λ (j : ℕ) (xs : List Extent). padded j (set xs i left)) (became-length (length ws) both mid (u + 1) g one-more (omega arith)) (became-slots (length ws) both mid (u + 1) g one-more (omega arith))
+          ∙ ap₂ (λ (j : ℕ) (xs : List Extent). padded j (set xs i left)) (became-length (length ws) both mid (u + 1) g one-more (omega arith))
+          (became-slots (length ws) both mid (u + 1) g one-more (omega arith))
           ∙ ap (padded (length ws)) (set-append-left (take (i + 1) es) (right ∷ drop (i + 1) es) i left (omega (arith, length-take-le (i + 1) es (omega (arith, size))))
           ∙ ap₂ (λ (y : Extent) (v : Extent). set (take (i + 1) es) i y ++ v ∷ drop (i + 1) es)
           (extent-path left (upTo l (slot ws i)) refl refl (omega arith) ∙ ap (upTo l) (sym x))

@@ -108,7 +108,9 @@ told-more total out₀ k r xs rest rest′ out out′ h e g =
       left = ap (λ (j : ℕ). drop j total) (g .next) ∙ sym (drop-drop (length xs) k total) ∙ ap (drop (length xs)) (h .left ∙ e) ∙ drop-at xs rest′ (length xs) refl;
       is = g .is ∙ ap (laid k xs) (h .is)
           ∙ sym (ap (λ (j : ℕ). laid 0 (take j total) out₀) (g .next)
-          ∙ ap (λ (es : List Extent). laid 0 es out₀) (take-add k (length xs) total ∙ ap (λ (es : List Extent). take k total ++ take (length xs) es) (h .left ∙ e) ∙ ap (λ (es : List Extent). take k total ++ es) (take-at xs rest′ (length xs) refl))
+          ∙ ap (λ (es : List Extent). laid 0 es out₀) (take-add k (length xs) total
+          ∙ ap (λ (es : List Extent). take k total ++ take (length xs) es) (h .left ∙ e)
+          ∙ ap (λ (es : List Extent). take k total ++ es) (take-at xs rest′ (length xs) refl))
           ∙ laid-append 0 k (take k total) xs out₀ (omega (arith, length-take-le k total (h .within))));
     }
 

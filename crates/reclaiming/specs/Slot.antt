@@ -27,6 +27,9 @@ use Rattle.reclaiming.specs.Remapped.{remapped, place, places-moved, pus
 abbrev pub Ends : List ℕ → ℕ → Type 0
 Ends ws u = (i : ℕ) → i < u → end (slot ws i) ≤ none
 
+pub slot-moved : (g : ℕ → ℕ) (ws : List ℕ) (i p : ℕ) → p ≡ g (getD ws (3 * i + 1) 0) → extent (getD ws (3 * i) 0) p (getD ws (3 * i + 2) 0) ≡ move g (slot ws i)
+slot-moved g ws i p e = ap (λ (q : ℕ). extent (getD ws (3 * i) 0) q (getD ws (3 * i + 2) 0)) e
+
 pub slot-same : (ws ws′ : List ℕ) (i : ℕ) → ((k : ℕ) → 3 * i ≤ k → k < 3 * i + 3 → getD ws k 0 ≡ getD ws′ k 0) → slot ws i ≡ slot ws′ i
 slot-same ws ws′ i h =
     extent-path (slot ws i) (slot ws′ i) (h (3 * i) (omega arith) (omega arith)) (h (3 * i + 1) (omega arith) (omega arith)) (h (3 * i + 2) (omega arith) (omega arith))
@@ -128,6 +131,10 @@ packed-start g n ws = record { done = refl; rest = λ k h. refl; few = omega ari
 
 pub packed-slot : (g : ℕ → ℕ) (n : ℕ) (ws ws′ : List ℕ) (i w : ℕ) → Packed g n ws i ws′ w → slot ws′ i ≡ slot ws i
 packed-slot g n ws ws′ i w h = slot-same ws′ ws i (λ k a b. h .rest k a)
+
+-- What is pushed for slot i ends at `none` or before it.
+pub packed-ends : (g : ℕ → ℕ) (n : ℕ) (ws ws′ : List ℕ) (i w u : ℕ) (x : Extent) → Packed g n ws i ws′ w → Ends ws u → i < u → x ≡ move g (slot ws′ i) → end x ≤ none
+packed-ends g n ws ws′ i w u x h f l e = omega (arith, f i l, ap end e, ap end (packed-slot g n ws ws′ i w h))
 
 pub packed-step : (g : ℕ → ℕ) (n : ℕ) (ws ws′ ws″ : List ℕ) (i w k : ℕ) (x : Extent) → Packed g n ws i ws′ w → x ≡ move g (slot ws′ i)
     → Pushed n ws′ w x ws″ k → Packed g n ws (i + 1) ws″ k

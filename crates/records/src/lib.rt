@@ -48,7 +48,9 @@ fn read_words(
     out: &mut [u32],
 ) -> Listed
     requires { ⌜ 3 * 8192 ≤ length (now words) ⌝ }
-    ensures { λ r. ⌜ ((ext : List ℕ) → First (now (words .entry)) k ext → outcome (listed r) ext (now (blk .entry)) (now (spare .entry)) (now (out .exit)) ≡ call (Call.read l n (now (out .entry))) (lent h ext (now (blk .entry)) (now (spare .entry)))) ⌝ }
+    ensures { λ r. ⌜ ((ext : List ℕ) → First (now (words .entry)) k ext
+        → outcome (listed r) ext (now (blk .entry)) (now (spare .entry)) (now (out .exit))
+        ≡ call (Call.read l n (now (out .entry))) (lent h ext (now (blk .entry)) (now (spare .entry)))) ⌝ }
 {
     if 8192 < k {
         return Listed::Refused(Refusal::Shape, h);
@@ -67,7 +69,8 @@ pub fn read_records(
     n: u32,
     out: &mut [u32],
 ) -> Listed
-    ensures { λ r. ⌜ outcome (listed r) (flat (now (recs .entry))) (now (blk .entry)) (now (spare .entry)) (now (out .exit)) ≡ call (Call.read l n (now (out .entry))) (lent h (flat (now (recs .entry))) (now (blk .entry)) (now (spare .entry))) ⌝ }
+    ensures { λ r. ⌜ outcome (listed r) (flat (now (recs .entry))) (now (blk .entry)) (now (spare .entry)) (now (out .exit))
+        ≡ call (Call.read l n (now (out .entry))) (lent h (flat (now (recs .entry))) (now (blk .entry)) (now (spare .entry))) ⌝ }
 {
     let mut words = [0u32; 24576];
     flatten(recs, &mut words);

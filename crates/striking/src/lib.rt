@@ -51,7 +51,8 @@ fn without(valid: u32, gone: u32) -> u32
 
 // The block of slot i loses the slot's pages from l up to e.
 fn lower_slot(ext: &[u32], i: usize, pages: u32, l: u32, e: u32, blk: &mut [u32])
-    requires { ⌜ (3 * i + 2 < length (now ext)) × (0 < pages) × (HasBlock (now blk) (slot (now ext) i .physical / pages)) × (overlap (slot (now ext) i) l e ≤ validWord (now blk) (slot (now ext) i .physical / pages)) ⌝ }
+    requires { ⌜ (3 * i + 2 < length (now ext)) × (0 < pages) × (HasBlock (now blk) (slot (now ext) i .physical / pages))
+        × (overlap (slot (now ext) i) l e ≤ validWord (now blk) (slot (now ext) i .physical / pages)) ⌝ }
     ensures { λ _. ⌜ Lowered pages l e (slot (now (ext .entry)) i ∷ []) (now (blk .entry)) (now (blk .exit)) ⌝ }
 {
     let gone = overlap_of(ext, i, l, e);

@@ -16,70 +16,42 @@ abbrev μ-loop : tie.MeasureT-loop
 
 -- the mark that is read is 0 or 1
 low : (c : tie.After-slice-known Inv-loop μ-loop) → getD (c .before .before .loop .marks) (c .before .before .loop .o) 0 ≤ 1
-low c = omega (arith, sums-read (c .before .before .before .args .marks .now) (c .before .before .loop .marks) (c .before .before .loop .o) (c .before .before .loop .inv .4), c .before .before .before .pre .2 (c .before .before .loop .o) (omega arith))
+low c =
+    let w = c .before .before in
+    let o = w .loop in
+    let s = w .before in
+    omega (arith, sums-read (s .args .marks .now) (o .marks) (o .o) (o .inv .4), s .pre .2 (o .o) (omega arith))
 
 loop-holds : tie.Need-loop-holds Inv-loop μ-loop
 loop-holds c = (search needs, refl, sums-none (c .args .marks .now), search needs, stored-start (sums (c .args .marks .now)) (c .args .marks .now))
 
-mul-m : tie.Need-mul-m Inv-loop μ-loop
-mul-m c = search needs
-
-slice-read-m : tie.Need-slice-read-m Inv-loop μ-loop
-slice-read-m c = search needs
-
-mul-marks : tie.Need-mul-marks Inv-loop μ-loop
-mul-marks c = search needs
-
-slice-write-marks : tie.Need-slice-write-marks Inv-loop μ-loop
-slice-write-marks c = search needs
-
 add-k : tie.Need-add-k Inv-loop μ-loop
 add-k c = omega (arith, low c)
 
-add-o : tie.Need-add-o Inv-loop μ-loop
-add-o c = search needs
-
-loop-less : tie.Need-loop-less Inv-loop μ-loop
-loop-less c = search needs
-
 loop-again : tie.Need-loop-again Inv-loop μ-loop
-loop-again c = (
-  search needs,
-  simp length-set (search needs),
-  sums-more (c .before .before .before .args .marks .now) (c .before .before .loop .marks) (c .before .before .loop .k) (c .before .before .loop .o) (c .before .before .loop .inv .4) (c .before .before .loop .inv .2),
-  omega (arith, low c),
-  sums-store (c .before .before .before .args .marks .now) (c .before .before .loop .marks) (c .before .before .loop .k) (c .before .before .loop .o) (omega arith) (c .before .before .loop .inv .4) (c .before .before .loop .inv .2),
-)
-
-mul-marks-2 : tie.Need-mul-marks-2 Inv-loop μ-loop
-mul-marks-2 c = search needs
-
-slice-write-marks-2 : tie.Need-slice-write-marks-2 Inv-loop μ-loop
-slice-write-marks-2 c = search needs
+loop-again c =
+    let w = c .before .before in
+    let o = w .loop in
+    let a = w .before .args in (
+      search needs,
+      simp length-set (search needs),
+      sums-more (a .marks .now) (o .marks) (o .k) (o .o) (o .inv .4) (o .inv .2),
+      omega (arith, low c),
+      sums-store (a .marks .now) (o .marks) (o .k) (o .o) (omega arith) (o .inv .4) (o .inv .2),
+    )
 
 same-length : tie.Need-same-length Inv-loop μ-loop
 same-length c = simp length-set (search needs)
 
 returns : tie.Need-returns Inv-loop μ-loop
-returns c = let e : c .before .loop .o ≡ c .before .before .args .n = omega arith in
-    rw (← e) (sums-store (c .before .before .args .marks .now) (c .before .loop .marks) (c .before .loop .k) (c .before .loop .o) (omega arith) (c .before .loop .inv .4) (c .before .loop .inv .2))
+returns c =
+    let o = c .before .loop in
+    let a = c .before .before .args in
+    let e : o .o ≡ a .n = omega arith in
+    rw (← e) (sums-store (a .marks .now) (o .marks) (o .k) (o .o) (omega arith) (o .inv .4) (o .inv .2))
 
 pub add-up-spec : {M : Type 1} → statement M
 add-up-spec =
     tie.close
-    (tie.spec
-    Inv-loop
-    μ-loop
-    loop-holds
-    mul-m
-    slice-read-m
-    mul-marks
-    slice-write-marks
-    add-k
-    add-o
-    loop-less
-    loop-again
-    mul-marks-2
-    slice-write-marks-2
-    same-length
-    returns)
+    (tie.spec Inv-loop μ-loop loop-holds (λ c. search needs) (λ c. search needs) (λ c. search needs) (λ c. search needs) add-k
+    (λ c. search needs) (λ c. search needs) loop-again (λ c. search needs) (λ c. search needs) same-length returns)

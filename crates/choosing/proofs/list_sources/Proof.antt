@@ -16,42 +16,24 @@ Inv-loop ranks n v out₀ o₀ out o = (o ≤ n) × (length out ≡ length out�
 abbrev μ-loop : tie.MeasureT-loop
 μ-loop ranks n v out₀ o₀ out o = n - o
 
+abbrev start : tie.After-shared-slice-known2 Inv-loop μ-loop → tie.Start Inv-loop μ-loop
+start w = w .before .before .before .before
+
 -- a page that is listed has room
-room : (c : tie.After-shared-slice-known2 Inv-loop μ-loop) → getD (c .before .before .before .before .args .ranks .now) (c .before .before .before .loop .o) 0 < getD (c .before .before .before .before .args .ranks .now) (c .before .before .before .loop .o + 1) 0
-    → getD (c .before .before .before .before .args .ranks .now) (c .before .before .before .loop .o) 0 < length (c .before .before .before .before .args .out .now)
+room : (c : tie.After-shared-slice-known2 Inv-loop μ-loop) → let a = start c .args in let o = c .before .before .before .loop in
+    getD (a .ranks .now) (o .o) 0 < getD (a .ranks .now) (o .o + 1) 0 → getD (a .ranks .now) (o .o) 0 < length (a .out .now)
 room c h =
+    let o = c .before .before .before .loop in
+    let s = start c in
+    let a = s .args in
     omega (
       arith,
-      rank-lt (c .before .before .before .before .args .n) (rises (c .before .before .before .before .args .ranks .now)) (c .before .before .before .before .args .ranks .now) (c .before .before .before .before .pre .0) (c .before .before .before .loop .o) (omega arith) (rise-true (c .before .before .before .before .args .ranks .now) (c .before .before .before .loop .o) h),
-      c .before .before .before .before .pre .1,
+      rank-lt (a .n) (rises (a .ranks .now)) (a .ranks .now) (s .pre .0) (o .o) (omega arith) (rise-true (a .ranks .now) (o .o) h),
+      s .pre .1,
     )
 
 loop-holds : tie.Need-loop-holds Inv-loop μ-loop
 loop-holds c = (search needs, refl, listed-start (c .args .n) (c .args .v) (rises (c .args .ranks .now)) (c .args .out .now))
-
-cast-at : tie.Need-cast-at Inv-loop μ-loop
-cast-at c = search needs
-
-mul-rank : tie.Need-mul-rank Inv-loop μ-loop
-mul-rank c = search needs
-
-shared-slice-read-rank : tie.Need-shared-slice-read-rank Inv-loop μ-loop
-shared-slice-read-rank c = search needs
-
-add-if1 : tie.Need-add-if1 Inv-loop μ-loop
-add-if1 c = search needs
-
-mul-if1 : tie.Need-mul-if1 Inv-loop μ-loop
-mul-if1 c = search needs
-
-shared-slice-read-if1 : tie.Need-shared-slice-read-if1 Inv-loop μ-loop
-shared-slice-read-if1 c = search needs
-
-mul-out : tie.Need-mul-out Inv-loop μ-loop
-mul-out c = search needs
-
-add-out : tie.Need-add-out Inv-loop μ-loop
-add-out c = search needs
 
 cast-out : tie.Need-cast-out Inv-loop μ-loop
 cast-out c = omega (arith, c .before .before .shared-slice-known .given (c .before .before .before .before .loop .o))
@@ -62,49 +44,29 @@ mul-out-2 c = omega (arith, c .before .before .shared-slice-known .given (c .bef
 slice-write-out : tie.Need-slice-write-out Inv-loop μ-loop
 slice-write-out c = omega (arith, room (c .before) (omega arith))
 
-add-o : tie.Need-add-o Inv-loop μ-loop
-add-o c = search needs
-
-loop-less : tie.Need-loop-less Inv-loop μ-loop
-loop-less c = search needs
-
 loop-again : tie.Need-loop-again Inv-loop μ-loop
-loop-again c = (
-  search needs,
-  ⊎-elim (λ w. rw (w .1) (simp length-set (omega arith))) (λ w. rw (w .1) (omega arith)) (c .if1 .came),
-  ⊎-elim (λ w. rw (w .1) (listed-live (c .before .before .before .before .before .args .n) (c .before .before .before .before .before .args .v) (rises (c .before .before .before .before .before .args .ranks .now)) (c .before .before .before .before .before .args .out .now) (c .before .before .before .before .loop .o) (getD (c .before .before .before .before .before .args .ranks .now) (c .before .before .before .before .loop .o) 0) (c .before .before .before .before .loop .out)
-      (c .before .before .before .before .loop .inv .2) (rise-true (c .before .before .before .before .before .args .ranks .now) (c .before .before .before .before .loop .o) (omega arith)) (c .before .before .before .before .before .pre .0 .rank (c .before .before .before .before .loop .o) (omega arith)) (room (c .before) (omega arith))))
-      (λ w. rw (w .1) (listed-other (c .before .before .before .before .before .args .n) (c .before .before .before .before .before .args .v) (rises (c .before .before .before .before .before .args .ranks .now)) (c .before .before .before .before .before .args .out .now) (c .before .before .before .before .loop .o) (c .before .before .before .before .loop .out)
-      (c .before .before .before .before .loop .inv .2) (rise-false (c .before .before .before .before .before .args .ranks .now) (c .before .before .before .before .loop .o) (omega arith))))
-      (c .if1 .came),
-)
-
-same-length : tie.Need-same-length Inv-loop μ-loop
-same-length c = search needs
+loop-again c =
+    let o = c .before .before .before .before .loop in
+    let s = start (c .before) in
+    let a = s .args in (
+      search needs,
+      ⊎-elim (λ w. rw (w .1) (simp length-set (omega arith))) (λ w. rw (w .1) (omega arith)) (c .if1 .came),
+      ⊎-elim (λ w. rw (w .1) (listed-live (a .n) (a .v) (rises (a .ranks .now)) (a .out .now) (o .o) (getD (a .ranks .now) (o .o) 0) (o .out)
+          (o .inv .2) (rise-true (a .ranks .now) (o .o) (omega arith)) (s .pre .0 .rank (o .o) (omega arith)) (room (c .before) (omega arith))))
+          (λ w. rw (w .1) (listed-other (a .n) (a .v) (rises (a .ranks .now)) (a .out .now) (o .o) (o .out)
+          (o .inv .2) (rise-false (a .ranks .now) (o .o) (omega arith))))
+          (c .if1 .came),
+    )
 
 returns : tie.Need-returns Inv-loop μ-loop
-returns c = listed-end (c .before .before .args .n) (c .before .before .args .v) (rises (c .before .before .args .ranks .now)) (c .before .before .args .out .now) (c .before .loop .o) (c .before .loop .out) (c .before .loop .inv .2) (omega arith)
+returns c =
+    let o = c .before .loop in
+    let a = c .before .before .args in
+    listed-end (a .n) (a .v) (rises (a .ranks .now)) (a .out .now) (o .o) (o .out) (o .inv .2) (omega arith)
 
 pub list-sources-spec : {M : Type 1} → statement M
 list-sources-spec =
     tie.close
-    (tie.spec
-    Inv-loop
-    μ-loop
-    loop-holds
-    cast-at
-    mul-rank
-    shared-slice-read-rank
-    add-if1
-    mul-if1
-    shared-slice-read-if1
-    mul-out
-    add-out
-    cast-out
-    mul-out-2
-    slice-write-out
-    add-o
-    loop-less
-    loop-again
-    same-length
-    returns)
+    (tie.spec Inv-loop μ-loop loop-holds (λ c. search needs) (λ c. search needs) (λ c. search needs) (λ c. search needs)
+    (λ c. search needs) (λ c. search needs) (λ c. search needs) (λ c. search needs) cast-out mul-out-2 slice-write-out (λ c. search needs)
+    (λ c. search needs) loop-again (λ c. search needs) returns)

@@ -13,42 +13,36 @@ Inv-loop marks₀ ext used n v i₀ marks i = (i ≤ used) × (length marks ≡ 
 abbrev μ-loop : tie.MeasureT-loop
 μ-loop marks₀ ext used n v i₀ marks i = used - i
 
+abbrev start : tie.At-loop Inv-loop μ-loop → tie.Start Inv-loop μ-loop
+start w = w .before .before .before
+
 loop-holds : tie.Need-loop-holds Inv-loop μ-loop
-loop-holds c = (search needs, refl, marks-none _ _ _ (c .before .before .args .marks .now) (c .before .before .pre .1 .1))
+loop-holds c =
+    let s = c .before .before in
+    (search needs, refl, marks-none _ _ _ (s .args .marks .now) (s .pre .1 .1))
 
 mark-slot-requires : tie.Need-mark-slot-requires Inv-loop μ-loop
-mark-slot-requires c κs = (omega arith, omega arith, omega arith, c .before .before .before .before .before .pre .1 .0 (c .before .before .loop .i) (omega arith))
-
-add-i : tie.Need-add-i Inv-loop μ-loop
-add-i c = search needs
-
-loop-less : tie.Need-loop-less Inv-loop μ-loop
-loop-less c = search needs
+mark-slot-requires c κs = (omega arith, omega arith, omega arith, start (c .before .before) .pre .1 .0 (c .before .before .loop .i) (omega arith))
 
 loop-again : tie.Need-loop-again Inv-loop μ-loop
-loop-again c = (
-  search needs,
-  search needs,
-  marks-more (c .before .before .before .before .before .before .before .before .args .ext .now) (c .before .before .before .before .before .loop .i) (c .before .before .before .before .before .before .before .before .args .n) (c .before .before .before .before .before .before .before .before .args .v) (c .before .before .before .before .before .loop .marks) (c .before .before .mark-slot .last .0)
-      (c .before .before .before .before .before .before .before .before .pre .1 .0 (c .before .before .before .before .before .loop .i) (omega arith)) (omega arith) (c .before .before .before .before .before .loop .inv .2) (c .before .before .mark-slot .ensures),
-)
-
-same-length : tie.Need-same-length Inv-loop μ-loop
-same-length c = search needs
+loop-again c =
+    let m = c .before .before in
+    let w = m .before .before .before in
+    let o = w .loop in
+    let s = start w in
+    let a = s .args in (
+      search needs,
+      search needs,
+      marks-more (a .ext .now) (o .i) (a .n) (a .v) (o .marks) (m .mark-slot .last .0)
+          (s .pre .1 .0 (o .i) (omega arith)) (omega arith) (o .inv .2) (m .mark-slot .ensures),
+    )
 
 returns : tie.Need-returns Inv-loop μ-loop
-returns c = let e : c .before .loop .i ≡ c .before .before .before .before .args .used = omega arith in rw (← e) (c .before .loop .inv .2)
+returns c =
+    let o = c .before .loop in
+    let e : o .i ≡ start (c .before) .args .used = omega arith in rw (← e) (o .inv .2)
 
 pub mark-slots-spec : {M : Type 1} → statement M
 mark-slots-spec =
     tie.close
-    (tie.spec
-    Inv-loop
-    μ-loop
-    loop-holds
-    mark-slot-requires
-    add-i
-    loop-less
-    loop-again
-    same-length
-    returns)
+    (tie.spec Inv-loop μ-loop loop-holds mark-slot-requires (λ c. search needs) (λ c. search needs) loop-again (λ c. search needs) returns)

@@ -5,6 +5,10 @@ use borrow.Author.Needs.{needs}
 use Rattle.cutting.proofs.cut_out.Statement.{statement}
 use Rattle.cutting.proofs.cut_out.Tie as tie
 
+-- where the extent before the range is clipped
+abbrev start : tie.After-clip-right → tie.Start
+start r = r .before .before .before .before .before
+
 sub-z : tie.Need-sub-z
 sub-z c =
     let s = c .before .before in
@@ -16,12 +20,6 @@ split-requires c κs =
     let s = c .before .before .before .before in
     let a = s .args in
     split-ready (a .ext .now) (a .used) (a .l) (a .e) _ _ (s .pre .0) (s .pre .1 .before) (s .pre .1 .after) (omega arith)
-
-add-result : tie.Need-add-result
-add-result c = search needs
-
-same-length : tie.Need-same-length
-same-length c = search needs
 
 returns : tie.Need-returns
 returns c =
@@ -37,44 +35,33 @@ clip-right-requires c κs =
 
 clip-left-requires : tie.Need-clip-left-requires
 clip-left-requires c κs =
-    let s = c .before .before .before .before .before .before .before .before in
+    let r = c .before .before .before in
+    let s = start r in
     let a = s .args in
     left-ready (a .ext .now) (a .used) (a .l) (a .e) _ _ (s .pre .0) (s .pre .1 .before) (s .pre .1 .after)
-    (omega arith) _ (c .before .before .before .clip-right .ensures)
+    (omega arith) _ (r .clip-right .ensures)
 
 close-requires : tie.Need-close-requires
 close-requires c κs =
-    let s = c .before .before .before .before .before .before .before .before .before .before .before .before in
+    let f = c .before .before .before in
+    let r = f .before .before .before .before in
+    let s = start r in
     let a = s .args in
     close-ready (a .ext .now) (a .used) (a .l) (a .e) _ _ (s .pre .0) (s .pre .1 .before) (s .pre .1 .after)
-    (omega arith) _ (c .before .before .before .before .before .before .before .clip-right .ensures) _ (c .before .before .before .clip-left .ensures)
-
-add-result-2 : tie.Need-add-result-2
-add-result-2 c = search needs
-
-same-length-2 : tie.Need-same-length-2
-same-length-2 c = search needs
+    (omega arith) _ (r .clip-right .ensures) _ (f .clip-left .ensures)
 
 returns-2 : tie.Need-returns-2
 returns-2 c =
-    let s = c .before .before .before .before .before .before .before .before .before .before .before .before .before .before .before .before in
+    let z = c .before .before .before in
+    let f = z .before .before .before .before in
+    let r = f .before .before .before .before in
+    let s = start r in
     let a = s .args in
     cut-done (a .ext .now) (a .used) (a .l) (a .e) _ _ (s .pre .0) (s .pre .1 .before) (s .pre .1 .after)
-    (omega arith) _ (c .before .before .before .before .before .before .before .before .before .before .before .clip-right .ensures)
-    _ (c .before .before .before .before .before .before .before .clip-left .ensures) _ (c .before .before .before .close .ensures)
+    (omega arith) _ (r .clip-right .ensures) _ (f .clip-left .ensures) _ (z .close .ensures)
 
 pub cut-out-spec : {M : Type 1} → statement M
 cut-out-spec =
     tie.close
-    (tie.spec
-    sub-z
-    split-requires
-    add-result
-    same-length
-    returns
-    clip-right-requires
-    clip-left-requires
-    close-requires
-    add-result-2
-    same-length-2
-    returns-2)
+    (tie.spec sub-z split-requires (λ c. search needs) (λ c. search needs) returns clip-right-requires clip-left-requires close-requires
+    (λ c. search needs) (λ c. search needs) returns-2)

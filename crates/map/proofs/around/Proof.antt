@@ -12,19 +12,9 @@ use Rattle.map.proofs.around.Tie as tie
 others : (c : tie.After-starting-before) → let a = c .before .before .before .before .args in
     let k = c .before .first-after2 .result in
     (k ≤ a .used) × (a .used - k ≡ endsAfter (a .l + a .n) (slotsFrom (a .ext .now) 0 (a .used)))
-others c = let a = c .before .before .before .before .args in ends-others (a .l + a .n) (a .ext .now) (a .used) _ (c .before .first-after2 .ensures)
-
-first-after-requires : tie.Need-first-after-requires
-first-after-requires c κs = search needs
-
-add-first-after : tie.Need-add-first-after
-add-first-after c = search needs
-
-first-after-requires-2 : tie.Need-first-after-requires-2
-first-after-requires-2 c κs = search needs
-
-starting-before-requires : tie.Need-starting-before-requires
-starting-before-requires c κs = search needs
+others c =
+    let a = c .before .before .before .before .args in
+    ends-others (a .l + a .n) (a .ext .now) (a .used) _ (c .before .first-after2 .ensures)
 
 sub-after : tie.Need-sub-after
 sub-after c = others c .0
@@ -35,10 +25,4 @@ returns c = record { first = c .before .before .first-after .ensures; before = c
 pub around-spec : {M : Type 1} → statement M
 around-spec =
     tie.close
-    (tie.spec
-    first-after-requires
-    add-first-after
-    first-after-requires-2
-    starting-before-requires
-    sub-after
-    returns)
+    (tie.spec (λ c κs. search needs) (λ c. search needs) (λ c κs. search needs) (λ c κs. search needs) sub-after returns)

@@ -5,47 +5,27 @@ use borrow.Author.Needs.{needs}
 use Rattle.map.proofs.end_of.Statement.{statement}
 use Rattle.map.proofs.end_of.Tie as tie
 
-mul-at : tie.Need-mul-at
-mul-at c = search needs
-
-mul-result : tie.Need-mul-result
-mul-result c = search needs
-
-shared-slice-read-result : tie.Need-shared-slice-read-result
-shared-slice-read-result c = search needs
+abbrev start : tie.After-shared-slice-known2 → tie.Start
+start w = w .before .before
 
 cast-result : tie.Need-cast-result
 cast-result c = omega (arith, c .shared-slice-known .given (3 * c .before .args .i))
 
-add-result : tie.Need-add-result
-add-result c = search needs
-
-mul-result-2 : tie.Need-mul-result-2
-mul-result-2 c = search needs
-
-shared-slice-read-result-2 : tie.Need-shared-slice-read-result-2
-shared-slice-read-result-2 c = search needs
-
 cast-result-2 : tie.Need-cast-result-2
-cast-result-2 c = omega (arith, c .shared-slice-known2 .given (3 * c .before .before .args .i + 2))
+cast-result-2 c = omega (arith, c .shared-slice-known2 .given (3 * start c .args .i + 2))
 
 add-result-2 : tie.Need-add-result-2
-add-result-2 c = omega (arith, c .before .shared-slice-known .given (3 * c .before .before .args .i), c .shared-slice-known2 .given (3 * c .before .before .args .i + 2))
+add-result-2 c =
+    let a = start c .args in
+    omega (arith, c .before .shared-slice-known .given (3 * a .i), c .shared-slice-known2 .given (3 * a .i + 2))
 
 returns : tie.Need-returns
-returns c = omega (arith, c .before .shared-slice-known .given (3 * c .before .before .args .i), c .shared-slice-known2 .given (3 * c .before .before .args .i + 2))
+returns c =
+    let a = start c .args in
+    omega (arith, c .before .shared-slice-known .given (3 * a .i), c .shared-slice-known2 .given (3 * a .i + 2))
 
 pub end-of-spec : {M : Type 1} → statement M
 end-of-spec =
     tie.close
-    (tie.spec
-    mul-at
-    mul-result
-    shared-slice-read-result
-    cast-result
-    add-result
-    mul-result-2
-    shared-slice-read-result-2
-    cast-result-2
-    add-result-2
-    returns)
+    (tie.spec (λ c. search needs) (λ c. search needs) (λ c. search needs) cast-result (λ c. search needs) (λ c. search needs)
+    (λ c. search needs) cast-result-2 add-result-2 returns)

@@ -9,52 +9,22 @@ use Rattle.map.proofs.joins_left.Tie as tie
 returns : tie.Need-returns
 returns c = none-before _ _ _ _ _ (omega arith)
 
-end-of-requires : tie.Need-end-of-requires
-end-of-requires c κs = search needs
-
 returns-2 : tie.Need-returns-2
 returns-2 c = not-next _ _ _ _ _ (omega arith) (λ e. c .if2 .taken (omega arith))
 
-mul-at : tie.Need-mul-at
-mul-at c = search needs
-
-add-q : tie.Need-add-q
-add-q c = search needs
-
-mul-q : tie.Need-mul-q
-mul-q c = search needs
-
-shared-slice-read-q : tie.Need-shared-slice-read-q
-shared-slice-read-q c = search needs
+abbrev start : tie.Else2 → tie.Start
+start w = w .before .before .before .before
 
 cast-if3 : tie.Need-cast-if3
-cast-if3 c = omega (arith, c .shared-slice-known2 .given (3 * (c .before .before .before .before .before .args .before - 1) + 1))
-
-add-if3 : tie.Need-add-if3
-add-if3 c = search needs
-
-mul-if3 : tie.Need-mul-if3
-mul-if3 c = search needs
-
-shared-slice-read-if3 : tie.Need-shared-slice-read-if3
-shared-slice-read-if3 c = search needs
-
-cast-if3-2 : tie.Need-cast-if3-2
-cast-if3-2 c = search needs
+cast-if3 c = omega (arith, c .shared-slice-known2 .given (3 * (start (c .before) .args .before - 1) + 1))
 
 add-if3-2 : tie.Need-add-if3-2
 add-if3-2 c =
-    let at = 3 * (c .before .before .before .before .before .before .args .before - 1) in
+    let at = 3 * (start (c .before .before) .args .before - 1) in
     omega (arith, c .before .shared-slice-known2 .given (at + 1), c .shared-slice-known3 .given (at + 2))
 
 returns-3 : tie.Need-returns-3
 returns-3 c = not-behind _ _ _ _ _ (omega arith) (c .if3 .taken)
-
-div-result : tie.Need-div-result
-div-result c = search needs
-
-div-result-2 : tie.Need-div-result-2
-div-result-2 c = search needs
 
 returns-4 : tie.Need-returns-4
 returns-4 c = by-block _ _ _ _ _ (omega arith) (omega arith) (omega arith)
@@ -62,21 +32,6 @@ returns-4 c = by-block _ _ _ _ _ (omega arith) (omega arith) (omega arith)
 pub joins-left-spec : {M : Type 1} → statement M
 joins-left-spec =
     tie.close
-    (tie.spec
-    returns
-    end-of-requires
-    returns-2
-    mul-at
-    add-q
-    mul-q
-    shared-slice-read-q
-    cast-if3
-    add-if3
-    mul-if3
-    shared-slice-read-if3
-    cast-if3-2
-    add-if3-2
-    returns-3
-    div-result
-    div-result-2
-    returns-4)
+    (tie.spec returns (λ c κs. search needs) returns-2 (λ c. search needs) (λ c. search needs) (λ c. search needs) (λ c. search needs)
+    cast-if3 (λ c. search needs) (λ c. search needs) (λ c. search needs) (λ c. search needs) add-if3-2 returns-3 (λ c. search needs)
+    (λ c. search needs) returns-4)

@@ -11,23 +11,11 @@ returns c =
     let a = s .args in
     starts-later (a .ext .now) (a .used) (a .l) (s .pre .1) (a .first) (s .pre .2) (λ h. absurd (omega arith))
 
-mul-at : tie.Need-mul-at
-mul-at c = search needs
-
-mul-if2 : tie.Need-mul-if2
-mul-if2 c = search needs
-
-shared-slice-read-if2 : tie.Need-shared-slice-read-if2
-shared-slice-read-if2 c = search needs
-
 returns-2 : tie.Need-returns-2
 returns-2 c =
     let s = c .before .before .before in
     let a = s .args in
     starts-later (a .ext .now) (a .used) (a .l) (s .pre .1) (a .first) (s .pre .2) (λ h. omega arith)
-
-add-result : tie.Need-add-result
-add-result c = search needs
 
 returns-3 : tie.Need-returns-3
 returns-3 c =
@@ -38,4 +26,4 @@ returns-3 c =
 pub starting-before-spec : {M : Type 1} → statement M
 starting-before-spec =
     tie.close
-    (tie.spec returns mul-at mul-if2 shared-slice-read-if2 returns-2 add-result returns-3)
+    (tie.spec returns (λ c. search needs) (λ c. search needs) (λ c. search needs) returns-2 (λ c. search needs) returns-3)

@@ -17,6 +17,9 @@ Inv-loop ext used first l e out₀ k₀ pos₀ i₀ out k pos i = (i ≤ used) �
 abbrev μ-loop : tie.MeasureT-loop
 μ-loop ext used first l e out₀ k₀ pos₀ i₀ out k pos i = used - i
 
+abbrev start : tie.At-loop Inv-loop μ-loop → tie.Start Inv-loop μ-loop
+start w = w .before .before .before
+
 loop-holds : tie.Need-loop-holds Inv-loop μ-loop
 loop-holds c =
     let s = c .before .before in
@@ -28,89 +31,68 @@ loop-holds c =
       telling-start (a .l) (a .e) (a .first) (a .ext .now) (a .used) (a .out .now) (p .2) (p .3),
     )
 
-start-of-requires : tie.Need-start-of-requires Inv-loop μ-loop
-start-of-requires c κs = search needs
-
 put-hole-requires : tie.Need-put-hole-requires Inv-loop μ-loop
 put-hole-requires c κs =
-    let a = c .before .before .before .before .before .before .before .args in
-    let o = c .before .before .before .before .loop in
-    telling-room (a .l) (a .e) (a .ext .now) (a .used) (a .out .now) (o .i) (o .pos) (o .k) (o .out) (c .before .before .before .before .before .before .before .pre .1) (o .inv .3)
-    (walk-end (a .ext .now) (a .used) (o .pos) (a .e) (o .i) (c .before .before .before .before .before .before .before .pre .0 .2) (omega arith) (omega arith) (omega arith))
-
-same-length : tie.Need-same-length Inv-loop μ-loop
-same-length c = search needs
+    let w = c .before .before .before .before in
+    let o = w .loop in
+    let s = start w in
+    let a = s .args in
+    telling-room (a .l) (a .e) (a .ext .now) (a .used) (a .out .now) (o .i) (o .pos) (o .k) (o .out) (s .pre .1) (o .inv .3)
+    (walk-end (a .ext .now) (a .used) (o .pos) (a .e) (o .i) (s .pre .0 .2) (omega arith) (omega arith) (omega arith))
 
 returns : tie.Need-returns Inv-loop μ-loop
 returns c =
-    let a = c .before .before .before .before .before .before .before .before .before .before .args in
-    let o = c .before .before .before .before .before .before .before .loop in
-    telling-end (a .l) (a .e) (a .ext .now) (a .used) (a .out .now) (o .i) (o .pos) (o .k) (o .out) (c .before .before .before .before .before .before .before .before .before .before .pre .1) (o .inv .3)
-    (walk-end (a .ext .now) (a .used) (o .pos) (a .e) (o .i) (c .before .before .before .before .before .before .before .before .before .before .pre .0 .2) (omega arith) (omega arith) (omega arith)) _ _ (c .before .before .put-hole .ensures)
+    let w = c .before .before .before .before .before .before .before in
+    let o = w .loop in
+    let s = start w in
+    let a = s .args in
+    telling-end (a .l) (a .e) (a .ext .now) (a .used) (a .out .now) (o .i) (o .pos) (o .k) (o .out) (s .pre .1) (o .inv .3)
+    (walk-end (a .ext .now) (a .used) (o .pos) (a .e) (o .i) (s .pre .0 .2) (omega arith) (omega arith) (omega arith)) _ _ (c .before .before .put-hole .ensures)
 
 put-slot-requires : tie.Need-put-slot-requires Inv-loop μ-loop
 put-slot-requires c κs =
-    let a = c .before .before .before .before .before .before .before .args in
-    let o = c .before .before .before .before .loop in
-    let p = c .before .before .before .before .before .before .before .pre in (
-      (omega arith, omega arith, omega arith, sound-piece (a .ext .now) (a .used) (p .0 .2) (o .i) (omega arith)),
-      telling-fits (a .l) (a .e) (a .ext .now) (a .used) (a .out .now) (o .i) (o .pos) (o .k) (o .out) (p .1) (o .inv .3) (p .0 .2) (omega arith) (omega arith) (omega arith),
+    let w = c .before .before .before .before in
+    let o = w .loop in
+    let s = start w in
+    let a = s .args in (
+      (omega arith, omega arith, omega arith, sound-piece (a .ext .now) (a .used) (s .pre .0 .2) (o .i) (omega arith)),
+      telling-fits (a .l) (a .e) (a .ext .now) (a .used) (a .out .now) (o .i) (o .pos) (o .k) (o .out) (s .pre .1) (o .inv .3) (s .pre .0 .2) (omega arith) (omega arith) (omega arith),
     )
-
-reach-of-requires : tie.Need-reach-of-requires Inv-loop μ-loop
-reach-of-requires c κs = search needs
-
-add-i : tie.Need-add-i Inv-loop μ-loop
-add-i c = search needs
-
-loop-less : tie.Need-loop-less Inv-loop μ-loop
-loop-less c = search needs
 
 loop-again : tie.Need-loop-again Inv-loop μ-loop
 loop-again c =
-    let a = c .before .before .before .before .before .before .before .before .before .before .before .args in
-    let o = c .before .before .before .before .before .before .before .before .loop in
-    let p = c .before .before .before .before .before .before .before .before .before .before .before .pre in (
+    let p = c .before .before .before in
+    let w = p .before .before .before .before .before in
+    let o = w .loop in
+    let s = start w in
+    let a = s .args in (
       search needs,
       omega (arith, c .reach-of .ensures),
       search needs,
-      telling-more (a .l) (a .e) (a .ext .now) (a .used) (a .out .now) (o .i) (o .pos) (o .k) (o .out) (p .1) (o .inv .3) (p .0 .2) (omega arith) (omega arith) (omega arith)
-          _ _ _ (c .reach-of .ensures) (c .before .before .before .put-slot .ensures),
+      telling-more (a .l) (a .e) (a .ext .now) (a .used) (a .out .now) (o .i) (o .pos) (o .k) (o .out) (s .pre .1) (o .inv .3) (s .pre .0 .2) (omega arith) (omega arith) (omega arith)
+          _ _ _ (c .reach-of .ensures) (p .put-slot .ensures),
     )
 
 put-hole-requires-2 : tie.Need-put-hole-requires-2 Inv-loop μ-loop
 put-hole-requires-2 c κs =
-    let a = c .before .before .before .before .before .args in
-    let o = c .before .before .loop in
-    telling-room (a .l) (a .e) (a .ext .now) (a .used) (a .out .now) (o .i) (o .pos) (o .k) (o .out) (c .before .before .before .before .before .pre .1) (o .inv .3)
+    let w = c .before .before in
+    let o = w .loop in
+    let s = start w in
+    let a = s .args in
+    telling-room (a .l) (a .e) (a .ext .now) (a .used) (a .out .now) (o .i) (o .pos) (o .k) (o .out) (s .pre .1) (o .inv .3)
     (walk-over (a .ext .now) (a .used) (o .pos) (a .e) (o .i) (omega arith))
-
-same-length-2 : tie.Need-same-length-2 Inv-loop μ-loop
-same-length-2 c = search needs
 
 returns-2 : tie.Need-returns-2 Inv-loop μ-loop
 returns-2 c =
-    let a = c .before .before .before .before .before .before .before .before .args in
-    let o = c .before .before .before .before .before .loop in
-    telling-end (a .l) (a .e) (a .ext .now) (a .used) (a .out .now) (o .i) (o .pos) (o .k) (o .out) (c .before .before .before .before .before .before .before .before .pre .1) (o .inv .3)
+    let w = c .before .before .before .before .before in
+    let o = w .loop in
+    let s = start w in
+    let a = s .args in
+    telling-end (a .l) (a .e) (a .ext .now) (a .used) (a .out .now) (o .i) (o .pos) (o .k) (o .out) (s .pre .1) (o .inv .3)
     (walk-over (a .ext .now) (a .used) (o .pos) (a .e) (o .i) (omega arith)) _ _ (c .before .before .put-hole2 .ensures)
 
 pub list-found-spec : {M : Type 1} → statement M
 list-found-spec =
     tie.close
-    (tie.spec
-    Inv-loop
-    μ-loop
-    loop-holds
-    start-of-requires
-    put-hole-requires
-    same-length
-    returns
-    put-slot-requires
-    reach-of-requires
-    add-i
-    loop-less
-    loop-again
-    put-hole-requires-2
-    same-length-2
-    returns-2)
+    (tie.spec Inv-loop μ-loop loop-holds (λ c κs. search needs) put-hole-requires (λ c. search needs) returns put-slot-requires
+    (λ c κs. search needs) (λ c. search needs) (λ c. search needs) loop-again put-hole-requires-2 (λ c. search needs) returns-2)

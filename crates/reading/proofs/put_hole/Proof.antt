@@ -10,23 +10,14 @@ use Rattle.reading.proofs.put_hole.Tie as tie
 returns : tie.Need-returns
 returns c = lays-none _ _ _ (no-hole _ _ [] (omega arith))
 
-sub-t7 : tie.Need-sub-t7
-sub-t7 c = search needs
-
 put-slot-requires : tie.Need-put-slot-requires
 put-slot-requires c κs =
     let a = c .before .before .before .args in
     omega (arith, hole-one (a .a) (a .b) (omega arith))
-
-add-result : tie.Need-add-result
-add-result c = search needs
-
-same-length : tie.Need-same-length
-same-length c = search needs
 
 returns-2 : tie.Need-returns-2
 returns-2 c = lays-one _ _ _ _ _ _ _ (some-hole _ _ [] (omega arith)) (c .before .before .put-slot .ensures)
 
 pub put-hole-spec : {M : Type 1} → statement M
 put-hole-spec =
-    tie.close (tie.spec returns sub-t7 put-slot-requires add-result same-length returns-2)
+    tie.close (tie.spec returns (λ c. search needs) put-slot-requires (λ c. search needs) (λ c. search needs) returns-2)

@@ -12,90 +12,43 @@ use borrow.Author.Needs.{needs}
 use Rattle.reading.proofs.put_slot.Statement.{statement}
 use Rattle.reading.proofs.put_slot.Tie as tie
 
+abbrev start : tie.After-reach-of → tie.Start
+start w = w .before .before .before .before .before .before
+
 -- how many pieces there are, where both ends of the piece are found
-room : (c : tie.After-reach-of) → let a = c .before .before .before .before .before .before .args in
+room : (c : tie.After-reach-of) → let a = start c .args in
     length (tells (a .pos) (a .e) (slot (a .ext .now) (a .i))) ≡ length (withHole (a .pos) (c .before .start-of .result) []) + 1
 room c =
-    let a = c .before .before .before .before .before .before .args in
+    let a = start c .args in
     tells-length (a .pos) (a .e) _ _ (slot (a .ext .now) (a .i)) (omega arith) (c .before .start-of .ensures) (c .reach-of .ensures)
-
-end-of-requires : tie.Need-end-of-requires
-end-of-requires c κs = search needs
 
 returns : tie.Need-returns
 returns c = lays-none _ _ _ (tells-none _ _ _ (omega arith))
 
-mul-at : tie.Need-mul-at
-mul-at c = search needs
-
-start-of-requires : tie.Need-start-of-requires
-start-of-requires c κs = search needs
-
-reach-of-requires : tie.Need-reach-of-requires
-reach-of-requires c κs = search needs
-
 put-hole-requires : tie.Need-put-hole-requires
 put-hole-requires c κs = omega (arith, room (c .before))
 
-add-page : tie.Need-add-page
-add-page c = search needs
-
-mul-page : tie.Need-mul-page
-mul-page c = search needs
-
-shared-slice-read-page : tie.Need-shared-slice-read-page
-shared-slice-read-page c = search needs
-
-mul-page-2 : tie.Need-mul-page-2
-mul-page-2 c = search needs
-
-shared-slice-read-page-2 : tie.Need-shared-slice-read-page-2
-shared-slice-read-page-2 c = search needs
-
-sub-page : tie.Need-sub-page
-sub-page c = search needs
-
-add-page-2 : tie.Need-add-page-2
-add-page-2 c = search needs
-
-sub-t21 : tie.Need-sub-t21
-sub-t21 c = search needs
-
 put-slot-requires : tie.Need-put-slot-requires
-put-slot-requires c κs = omega (arith, c .before .before .before .before .before .put-hole .ensures .next, room (c .before .before .before .before .before .before .before))
+put-slot-requires c κs =
+    let p = c .before .before .before .before .before in
+    omega (arith, p .put-hole .ensures .next, room (p .before .before))
 
 add-result : tie.Need-add-result
-add-result c = omega (arith, c .before .before .before .before .before .before .before .before .put-hole .ensures .next, room (c .before .before .before .before .before .before .before .before .before .before))
-
-same-length : tie.Need-same-length
-same-length c = search needs
+add-result c =
+    let p = c .before .before .before .before .before .before .before .before in
+    omega (arith, p .put-hole .ensures .next, room (p .before .before))
 
 returns-2 : tie.Need-returns-2
 returns-2 c =
-    let r = c .before .before .before .before .before .before .before .before .before .before in
-    let a = r .before .before .before .before .before .before .args in
+    let p = c .before .before .before .before .before .before .before .before in
+    let r = p .before .before in
+    let a = start r .args in
     lays-tells (a .pos) (a .e) _ _ (slot (a .ext .now) (a .i)) (omega arith) (r .before .start-of .ensures) (r .reach-of .ensures) _ _ _ _ _
-    (c .before .before .before .before .before .before .before .before .put-hole .ensures) (c .before .before .put-slot .ensures)
+    (p .put-hole .ensures) (c .before .before .put-slot .ensures)
 
 pub put-slot-spec : {M : Type 1} → statement M
 put-slot-spec =
     tie.close
-    (tie.spec
-    end-of-requires
-    returns
-    mul-at
-    start-of-requires
-    reach-of-requires
-    put-hole-requires
-    add-page
-    mul-page
-    shared-slice-read-page
-    mul-page-2
-    shared-slice-read-page-2
-    sub-page
-    add-page-2
-    sub-t21
-    put-slot-requires
-    add-result
-    same-length
-    returns-2)
+    (tie.spec (λ c κs. search needs) returns (λ c. search needs) (λ c κs. search needs) (λ c κs. search needs) put-hole-requires
+    (λ c. search needs) (λ c. search needs) (λ c. search needs) (λ c. search needs) (λ c. search needs) (λ c. search needs)
+    (λ c. search needs) (λ c. search needs) put-slot-requires add-result (λ c. search needs) returns-2)

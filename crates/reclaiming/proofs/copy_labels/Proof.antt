@@ -1,6 +1,6 @@
-use Prim.Native.Nat.{_-_, _≤_}
+use Prim.Native.Nat.{_-_, _≤_, _<_}
 use mathlib.Core.Path.{_≡_, refl}
-use lib.ListN.{length, take, length-set}
+use lib.ListN.{length, take, getD, length-set}
 use Rattle.rules.specs.Extents.{none}
 use Rattle.laws.specs.Cells.{copies}
 use Rattle.reclaiming.specs.Labels.{labels-start, labels-next}
@@ -18,66 +18,37 @@ abbrev μ-loop : tie.MeasureT-loop
 loop-holds : tie.Need-loop-holds Inv-loop μ-loop
 loop-holds c = (search needs, refl, labels-start (c .args .to) (c .args .out .now) (c .args .spare .now))
 
-mul-label : tie.Need-mul-label Inv-loop μ-loop
-mul-label c = search needs
-
-shared-slice-read-label : tie.Need-shared-slice-read-label Inv-loop μ-loop
-shared-slice-read-label c = search needs
+-- the page whose label is copied
+listed : (w : tie.In-loop Inv-loop μ-loop) → getD (w .before .before .args .out .now) (w .before .loop .i) 0 < length (w .before .loop .spare)
+listed w = let l = w .before in omega (arith, l .before .pre .2 (l .loop .i) (omega arith))
 
 cast-label : tie.Need-cast-label Inv-loop μ-loop
-cast-label c = omega (arith, c .before .before .before .pre .2 (c .before .before .loop .i) (omega arith))
+cast-label c = omega (arith, listed (c .before))
 
 mul-label-2 : tie.Need-mul-label-2 Inv-loop μ-loop
-mul-label-2 c = omega (arith, c .before .before .before .pre .2 (c .before .before .loop .i) (omega arith))
+mul-label-2 c = omega (arith, listed (c .before))
 
 slice-read-label : tie.Need-slice-read-label Inv-loop μ-loop
-slice-read-label c = omega (arith, c .before .before .before .before .pre .2 (c .before .before .before .loop .i) (omega arith))
-
-add-spare : tie.Need-add-spare Inv-loop μ-loop
-add-spare c = search needs
-
-mul-spare : tie.Need-mul-spare Inv-loop μ-loop
-mul-spare c = search needs
-
-slice-write-spare : tie.Need-slice-write-spare Inv-loop μ-loop
-slice-write-spare c = search needs
-
-add-i : tie.Need-add-i Inv-loop μ-loop
-add-i c = search needs
-
-loop-less : tie.Need-loop-less Inv-loop μ-loop
-loop-less c = search needs
+slice-read-label c = omega (arith, listed (c .before .before))
 
 loop-again : tie.Need-loop-again Inv-loop μ-loop
-loop-again c = (
-  search needs,
-  simp length-set (search needs),
-  labels-next (c .before .before .before .before .args .to) (c .before .before .before .before .args .out .now) (c .before .before .before .before .args .spare .now) (c .before .before .before .loop .spare) (c .before .before .before .loop .i) (omega arith) (omega (arith, c .before .before .before .before .pre .2 (c .before .before .before .loop .i) (omega arith))) (c .before .before .before .loop .inv .2),
-)
-
-same-length : tie.Need-same-length Inv-loop μ-loop
-same-length c = search needs
+loop-again c =
+    let w = c .before .before in
+    let o = w .before .loop in
+    let a = w .before .before .args in (
+      search needs,
+      simp length-set (search needs),
+      labels-next (a .to) (a .out .now) (a .spare .now) (o .spare) (o .i) (omega arith) (omega (arith, listed w)) (o .inv .2),
+    )
 
 returns : tie.Need-returns Inv-loop μ-loop
-returns c = let e : c .before .loop .i ≡ c .before .before .args .k = omega arith in rw (← e) (c .before .loop .inv .2)
+returns c =
+    let o = c .before .loop in
+    let e : o .i ≡ c .before .before .args .k = omega arith in rw (← e) (o .inv .2)
 
 pub copy-labels-spec : {M : Type 1} → statement M
 copy-labels-spec =
     tie.close
-    (tie.spec
-    Inv-loop
-    μ-loop
-    loop-holds
-    mul-label
-    shared-slice-read-label
-    cast-label
-    mul-label-2
-    slice-read-label
-    add-spare
-    mul-spare
-    slice-write-spare
-    add-i
-    loop-less
-    loop-again
-    same-length
+    (tie.spec Inv-loop μ-loop loop-holds (λ c. search needs) (λ c. search needs) cast-label mul-label-2 slice-read-label
+    (λ c. search needs) (λ c. search needs) (λ c. search needs) (λ c. search needs) (λ c. search needs) loop-again (λ c. search needs)
     returns)

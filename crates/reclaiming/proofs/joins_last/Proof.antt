@@ -12,15 +12,6 @@ returns c =
     let a = c .before .before .args in
     joins-none (a .n) (a .ext .now) (a .w) (a .x) (omega arith)
 
-sub-slot-at : tie.Need-sub-slot-at
-sub-slot-at c = search needs
-
-slot-at-requires : tie.Need-slot-at-requires
-slot-at-requires c κs = search needs
-
-joins-requires : tie.Need-joins-requires
-joins-requires c κs = search needs
-
 returns-2 : tie.Need-returns-2
 returns-2 c =
     let a = c .before .before .before .before .args in
@@ -28,4 +19,4 @@ returns-2 c =
 
 pub joins-last-spec : {M : Type 1} → statement M
 joins-last-spec =
-    tie.close (tie.spec returns sub-slot-at slot-at-requires joins-requires returns-2)
+    tie.close (tie.spec returns (λ c. search needs) (λ c κs. search needs) (λ c κs. search needs) returns-2)

@@ -14,6 +14,9 @@ Inv-loop ext used first pages l e blk₀ i₀ blk i = (i ≤ used) × Lowered pa
 abbrev μ-loop : tie.MeasureT-loop
 μ-loop ext used first pages l e blk₀ i₀ blk i = used - i
 
+abbrev start : tie.At-loop Inv-loop μ-loop → tie.Start Inv-loop μ-loop
+start w = w .before .before .before
+
 loop-holds : tie.Need-loop-holds Inv-loop μ-loop
 loop-holds c =
     let s = c .before .before in
@@ -22,30 +25,20 @@ loop-holds c =
       lowered-start (a .pages) (a .l) (a .e) (a .ext .now) (a .used) (a .first) (a .blk .now) (s .pre .0 .sound) (s .pre .1),
     )
 
-mul-at : tie.Need-mul-at Inv-loop μ-loop
-mul-at c = search needs
-
-mul-if1 : tie.Need-mul-if1 Inv-loop μ-loop
-mul-if1 c = search needs
-
-shared-slice-read-if1 : tie.Need-shared-slice-read-if1 Inv-loop μ-loop
-shared-slice-read-if1 c = search needs
-
-same-length : tie.Need-same-length Inv-loop μ-loop
-same-length c = search needs
-
 returns : tie.Need-returns Inv-loop μ-loop
 returns c =
-    let s = c .before .before .before .before .before .before in
+    let w = c .before .before .before in
+    let o = w .loop in
+    let s = start w in
     let a = s .args in
-    let o = c .before .before .before .loop in
     lowered-end (a .pages) (a .l) (a .e) (a .ext .now) (a .used) (o .i) (a .blk .now) (o .blk) (s .pre .0 .sound) (o .inv .0) (λ h. omega arith) (o .inv .1)
 
 lower-slot-requires : tie.Need-lower-slot-requires Inv-loop μ-loop
 lower-slot-requires c κs =
-    let s = c .before .before .before .before .before .before .before in
+    let w = c .before .before .before .before in
+    let o = w .loop in
+    let s = start w in
     let a = s .args in
-    let o = c .before .before .before .before .loop in
     let p = s .pre .0 in
     let size = o .inv .1 .size in (
       omega (arith, p .within),
@@ -54,40 +47,19 @@ lower-slot-requires c κs =
       lowered-enough (a .pages) (a .l) (a .e) (a .ext .now) (a .used) (o .i) (a .blk .now) (o .blk) p (omega arith) (o .inv .1),
     )
 
-add-i : tie.Need-add-i Inv-loop μ-loop
-add-i c = search needs
-
-loop-less : tie.Need-loop-less Inv-loop μ-loop
-loop-less c = search needs
-
 loop-again : tie.Need-loop-again Inv-loop μ-loop
-loop-again c = (search needs, lowered-more _ _ _ _ _ _ _ _ (c .before .before .before .before .before .before .before .loop .inv .1) (c .before .before .lower-slot .ensures))
-
-same-length-2 : tie.Need-same-length-2 Inv-loop μ-loop
-same-length-2 c = search needs
+loop-again c =
+    (search needs, lowered-more _ _ _ _ _ _ _ _ (c .before .before .before .before .before .before .before .loop .inv .1) (c .before .before .lower-slot .ensures))
 
 returns-2 : tie.Need-returns-2 Inv-loop μ-loop
 returns-2 c =
-    let s = c .before .before .before .before in
-    let a = s .args in
     let o = c .before .loop in
+    let s = start (c .before) in
+    let a = s .args in
     lowered-end (a .pages) (a .l) (a .e) (a .ext .now) (a .used) (o .i) (a .blk .now) (o .blk) (s .pre .0 .sound) (o .inv .0) (λ h. absurd (omega arith)) (o .inv .1)
 
 pub lower-spec : {M : Type 1} → statement M
 lower-spec =
     tie.close
-    (tie.spec
-    Inv-loop
-    μ-loop
-    loop-holds
-    mul-at
-    mul-if1
-    shared-slice-read-if1
-    same-length
-    returns
-    lower-slot-requires
-    add-i
-    loop-less
-    loop-again
-    same-length-2
-    returns-2)
+    (tie.spec Inv-loop μ-loop loop-holds (λ c. search needs) (λ c. search needs) (λ c. search needs) (λ c. search needs) returns
+    lower-slot-requires (λ c. search needs) (λ c. search needs) loop-again (λ c. search needs) returns-2)

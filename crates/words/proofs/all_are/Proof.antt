@@ -1,4 +1,4 @@
-use Prim.Native.Nat.{ℕ, _+_, _-_, _≤_}
+use Prim.Native.Nat.{_-_, _≤_}
 use mathlib.Core.Path.{_≡_, refl}
 use native.Mathlib.Omega.{arith}
 use borrow.Author.Needs.{needs}
@@ -18,20 +18,12 @@ abbrev μ-loop : tie.MeasureT-loop
 loop-holds : tie.Need-loop-holds Inv-loop μ-loop
 loop-holds c = (search needs, scan-none _)
 
-mul-off : tie.Need-mul-off Inv-loop μ-loop
-mul-off c = search needs
-
-shared-slice-read-off : tie.Need-shared-slice-read-off Inv-loop μ-loop
-shared-slice-read-off c = search needs
-
-add-k : tie.Need-add-k Inv-loop μ-loop
-add-k c = search needs
-
-loop-less : tie.Need-loop-less Inv-loop μ-loop
-loop-less c = search needs
-
 loop-again : tie.Need-loop-again Inv-loop μ-loop
-loop-again c = (search needs, scan-bits _ _ (c .before .before .loop .off) (getD (c .before .before .before .args .ws .now) (c .before .before .loop .k) 0) (c .before .before .before .args .x) (c .before .before .loop .inv .1) refl)
+loop-again c =
+    let w = c .before .before in
+    let o = w .loop in
+    let a = w .before .args in
+    (search needs, scan-bits _ _ (o .off) (getD (a .ws .now) (o .k) 0) (a .x) (o .inv .1) refl)
 
 returns : tie.Need-returns Inv-loop μ-loop
 returns c = scan-end _ _ _ _ (c .before .loop .inv .1) (omega arith)
@@ -39,13 +31,5 @@ returns c = scan-end _ _ _ _ (c .before .loop .inv .1) (omega arith)
 pub all-are-spec : {M : Type 1} → statement M
 all-are-spec =
     tie.close
-    (tie.spec
-    Inv-loop
-    μ-loop
-    loop-holds
-    mul-off
-    shared-slice-read-off
-    add-k
-    loop-less
-    loop-again
+    (tie.spec Inv-loop μ-loop loop-holds (λ c. search needs) (λ c. search needs) (λ c. search needs) (λ c. search needs) loop-again
     returns)

@@ -1,10 +1,10 @@
-use Prim.Native.Nat.{ℕ, _+_, _-_, _≤_}
+use Prim.Native.Nat.{_-_, _≤_}
 use mathlib.Core.Path.{_≡_}
 use mathlib.Core.Logic.{⊎-elim}
 use native.Mathlib.Omega.{arith}
 use borrow.Author.Needs.{needs}
-use borrow.Author.Tests.{eq-eqb, ne-eqb, lt-ltb, le-ltb}
-use lib.Dec.{eqb, ltb}
+use borrow.Author.Tests.{lt-ltb, le-ltb}
+use lib.Dec.{ltb}
 use lib.ListN.{length, getD}
 use Rattle.rules.specs.Counting.{all}
 use Rattle.words.specs.Scan.{scan-none, scan-fails, scan-goes, scan-end}
@@ -20,25 +20,16 @@ abbrev μ-loop : tie.MeasureT-loop
 loop-holds : tie.Need-loop-holds Inv-loop μ-loop
 loop-holds c = (search needs, scan-none _)
 
-mul-if1 : tie.Need-mul-if1 Inv-loop μ-loop
-mul-if1 c = search needs
-
-shared-slice-read-if1 : tie.Need-shared-slice-read-if1 Inv-loop μ-loop
-shared-slice-read-if1 c = search needs
-
-add-k : tie.Need-add-k Inv-loop μ-loop
-add-k c = search needs
-
-loop-less : tie.Need-loop-less Inv-loop μ-loop
-loop-less c = search needs
-
 loop-again : tie.Need-loop-again Inv-loop μ-loop
-loop-again c = (
-  search needs,
-  ⊎-elim (λ w. rw (w .1) (scan-fails _ _ (le-ltb (getD (c .before .before .before .before .args .ws .now) (c .before .before .before .loop .k) 0) (c .before .before .before .before .args .top) (omega arith))))
-      (λ w. rw (w .1) (scan-goes _ _ _ (c .before .before .before .loop .inv .1) (lt-ltb (getD (c .before .before .before .before .args .ws .now) (c .before .before .before .loop .k) 0) (c .before .before .before .before .args .top) (omega arith))))
-      (c .if1 .came),
-)
+loop-again c =
+    let w1 = c .before .before .before in
+    let o = w1 .loop in
+    let a = w1 .before .args in (
+      search needs,
+      ⊎-elim (λ w. rw (w .1) (scan-fails _ _ (le-ltb (getD (a .ws .now) (o .k) 0) (a .top) (omega arith))))
+          (λ w. rw (w .1) (scan-goes _ _ _ (o .inv .1) (lt-ltb (getD (a .ws .now) (o .k) 0) (a .top) (omega arith))))
+          (c .if1 .came),
+    )
 
 returns : tie.Need-returns Inv-loop μ-loop
 returns c = scan-end _ _ _ _ (c .before .loop .inv .1) (omega arith)
@@ -46,13 +37,5 @@ returns c = scan-end _ _ _ _ (c .before .loop .inv .1) (omega arith)
 pub all-below-spec : {M : Type 1} → statement M
 all-below-spec =
     tie.close
-    (tie.spec
-    Inv-loop
-    μ-loop
-    loop-holds
-    mul-if1
-    shared-slice-read-if1
-    add-k
-    loop-less
-    loop-again
+    (tie.spec Inv-loop μ-loop loop-holds (λ c. search needs) (λ c. search needs) (λ c. search needs) (λ c. search needs) loop-again
     returns)
