@@ -7,7 +7,7 @@ use Rattle.rules.specs.Shape.{shaped}
 use Rattle.rules.specs.Sound.{sound}
 use Rattle.rules.specs.Device.{Device, deviceOf, wordsOf}
 use Rattle.rules.specs.Answers.{number, refuse}
-use Rattle.rules.specs.Calls.{Call, refusal, counts, leaves, lists, buffer, over, refused, accepted, plainCall, encoded, verdict, acceptedOn, call}
+use Rattle.rules.specs.Calls.{Call, refusal, counts, leaves, lists, buffer, over, refused, accepted, plainCall, encoded, tested, verdict, acceptedOn, call}
 use Rattle.rules.specs.declared.Refusal.{Refusal}
 use lib.Dec.{eqb}
 use Rattle.laws.specs.Bools.{cases}
@@ -16,7 +16,7 @@ use Rattle.laws.specs.States.{words-device, good-shaped, good-sound, sou
 
 module _ (c : Call) (d : Device) (g : Good d) where
   pub verdict-words : verdict c (wordsOf d) ≡ refusal c d
-  unfolding verdict refuse
+  unfolding tested refuse
   verdict-words = rw (good-shaped d g, good-sound d g) (ap (refusal c) (words-device d g))
 
   accepted-words : acceptedOn c (wordsOf d) ≡ encoded (accepted c d)
@@ -43,9 +43,9 @@ call-sound c s h e =
 
 -- 01, Refusals, 1 and 2
 pub call-shape : (c : Call) (s : Lent) → shaped s ≡ false → call c s ≡ refused (number Refusal.Shape) c s
-unfolding call verdict refuse
+unfolding call tested refuse
 call-shape c s e = rw e
 
 pub call-damaged : (c : Call) (s : Lent) → shaped s ≡ true → sound s ≡ false → call c s ≡ refused (number Refusal.Damaged) c s
-unfolding call verdict refuse
+unfolding call tested refuse
 call-damaged c s h e = rw (h, e)
