@@ -16,7 +16,7 @@ use Rattle.laws.specs.Sane.{Shaped, Sane}
 use Rattle.laws.specs.Shapes.{shaped-true}
 use Rattle.laws.specs.Sanes.{sound-sane}
 use Rattle.laws.specs.Kept.{Taken, taken}
-use Rattle.verdicts.specs.Refusals.{told, lentRefusal, roomed, lent-none, verdict-plain, call-refused, call-accepted}
+use Rattle.verdicts.specs.Refusals.{told, lentRefusal, roomed, lent-none, tested-plain, call-refused, call-accepted}
 use Rattle.verdicts.specs.declared.Verdict.{Verdict}
 
 -- ---- a verdict looks at the answer buffer's length alone
@@ -55,7 +55,7 @@ module _ (c : Call) (s : Lent) (v : Verdict) (e : told v ≡ lentRefusal s) (f :
   ready-state = let h = shaped-true s (both .0) in (h, sound-sane s h (both .1))
 
   plainly : verdict c s ≡ refusal c (deviceOf s)
-  plainly = verdict-plain c s (both .0) (both .1)
+  plainly = tested-plain (refusal c) s (both .0) (both .1)
 
   -- the second verdict
   module _ (w : Verdict) (r : ℕ) (g : told w ≡ r) (h : r ≡ refusal c (deviceOf s)) where

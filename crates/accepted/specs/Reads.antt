@@ -1,4 +1,4 @@
--- What a read that nothing refuses lists and leaves.
+-- What a read that nothing refuses lists and answers.
 use Prim.Native.Nat.{ℕ, suc, _+_, _*_, _≤_, _<_}
 use mathlib.Core.Path.{_≡_, sym, ap, _∙_}
 use mathlib.Core.List.{List, [], _∷_}
@@ -7,9 +7,11 @@ use lib.Dec.{ltb}
 use lib.ListN.{length}
 use Rattle.rules.specs.Extents.{none, end, flat}
 use Rattle.rules.specs.Lent.{Lent, inUse}
-use Rattle.rules.specs.Device.{deviceOf, wordsOf}
+use Rattle.rules.specs.Device.{deviceOf}
 use Rattle.rules.specs.Read.{withHole, withHoles, found}
-use Rattle.rules.specs.Calls.{Call, counts, leaves, lists, over}
+use Rattle.rules.specs.Answers.{said, outcome}
+use Rattle.rules.specs.Calls.{Call, refusal, over, call}
+use Rattle.rules.specs.Views.{reading}
 use Rattle.rules.specs.declared.Extent.{Extent}
 use Rattle.laws.specs.Bools.{cases}
 use Rattle.laws.specs.Rows.{Rows}
@@ -17,7 +19,8 @@ use Rattle.laws.specs.Cut.{below, from, from-rows}
 use Rattle.laws.specs.Counts.{below-length, from-length, tally-le}
 use Rattle.laws.specs.Slots.{slots-length}
 use Rattle.laws.specs.Shapes.{lines-pages, pages-high}
-use Rattle.laws.specs.States.{device-lines, device-words}
+use Rattle.laws.specs.States.{device-lines}
+use Rattle.laws.specs.Views.{view-accepts, read-view}
 use Rattle.reading.specs.Walk.{between}
 use Rattle.verdicts.specs.Reading.{found-words}
 use Rattle.accepted.specs.Accepts.{Ready}
@@ -77,14 +80,11 @@ module _ (l n : ℕ) (out : List ℕ) (s : Lent) (z : Ready (Call.read l n out) 
         z .shape .sizes .m-high,
       )
 
-  pub read-counts : (k : ℕ) → k ≡ length (between l (l + n) (inUse s)) → k ∷ [] ≡ counts (Call.read l n out) (deviceOf s)
-  unfolding counts
-  read-counts k e = ap (λ (x : ℕ). x ∷ []) (e ∙ sym (ap length is-found))
-
-  pub read-lists : (o : List ℕ) → o ≡ over (flat (between l (l + n) (inUse s))) out → o ≡ over (lists (Call.read l n out) (deviceOf s)) out
-  unfolding lists
-  read-lists o e = e ∙ ap (λ (es : List Extent). over (flat es) out) (sym is-found)
-
-  pub read-leaves : s ≡ wordsOf (leaves (Call.read l n out) (deviceOf s))
-  unfolding leaves
-  read-leaves = sym (device-words s (z .shape) (z .sane))
+  -- its answer
+  pub read-answer : (k : ℕ) (o : List ℕ) → ListedPieces l n s k out o
+      → outcome (said 0 (k ∷ []) (s .head)) (s .extentWords) (s .blockWords) (s .spare) o ≡ call (Call.read l n out) s
+  unfolding refusal
+  read-answer k o p =
+      view-accepts (reading l n out) s (z .passes) (k ∷ []) o
+      (ap (λ (x : ℕ). x ∷ []) (p .pieces ∙ sym (ap length is-found))) (p .words ∙ ap (λ (es : List Extent). over (flat es) out) (sym is-found))
+      ∙ sym (read-view l n out s)

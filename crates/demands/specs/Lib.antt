@@ -3,6 +3,7 @@ pub mod Host
 pub mod Requests
 pub mod Demand1
 pub mod Demand2
+pub mod Made
 pub mod Demand3
 pub mod Once
 pub mod Struck

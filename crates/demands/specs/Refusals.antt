@@ -1,7 +1,7 @@
 -- Demand 1, proved: the refusals of a call are those of the paper's table in the paper's order, and a refused call leaves everything.
 use Prim.Native.Nat.{ℕ, _+_, _*_}
 use mathlib.Core.Bool.{Bool, true, false, cond, _&&_, _||_}
-use mathlib.Core.Path.{_≡_, refl, sym, ap, ap₂, _∙_}
+use mathlib.Core.Path.{_≡_, refl, sym, ap, ap₂, _∙_, subst}
 use mathlib.Core.List.{List, [], _∷_}
 use native.Mathlib.Omega.{arith}
 use borrow.Author.Tests.{eq-eqb}
@@ -10,17 +10,17 @@ use lib.ListN.{length, getD, drop}
 use lib.Seq.{drop-append-seam}
 use Rattle.rules.specs.Extents.{flat}
 use Rattle.rules.specs.declared.Extent.{Extent}
-use Rattle.rules.specs.Lent.{Lent, lent}
-use Rattle.rules.specs.Shape.{sizes, lengths}
-use Rattle.rules.specs.Device.{Device, free, live, stale, extents, deviceOf, wordsOf}
+use Rattle.rules.specs.Lent.{Lent}
+use Rattle.rules.specs.Shape.{sizes, lengths, shape}
+use Rattle.rules.specs.Device.{Device, free, live, stale, extents, deviceOf}
 use Rattle.rules.specs.Placement.{targets, puts, pieces}
 use Rattle.rules.specs.Read.{found}
 use Rattle.rules.specs.Request.{applied, judged, withTable, numbered, written, trimmed}
 use Rattle.rules.specs.Answers.{Outcome, number, refuse}
 use Rattle.rules.specs.Calls.{Call, outside, tooMany, writeRefusal, trimRefusal, readRefusal, reclaimRefusal}
-use Rattle.rules.specs.Calls.{refusal, counts, leaves, lists, buffer, over, zeros, refused, verdict, acceptedOn, call, freshDevice, sizesOnly, fresh}
+use Rattle.rules.specs.Calls.{refusal, counts, leaves, lists, buffer, over, zeros, refused, tested, verdict, acceptedOn, call, fromSizes, fresh}
 use Rattle.rules.specs.declared.Refusal.{Refusal}
-use Rattle.laws.specs.Bools.{and-split}
+use Rattle.laws.specs.Bools.{cases, and-split}
 use Rattle.laws.specs.Cells.{replicate-at}
 use Rattle.laws.specs.Shapes.{sizes-true}
 use Rattle.laws.specs.FreshWords.{fresh-words}
@@ -28,6 +28,7 @@ use Rattle.laws.specs.Slots.{flat-length}
 use Rattle.laws.specs.Placed.{puts-slots}
 use Rattle.laws.specs.States.{device-lines}
 use Rattle.laws.specs.Kept.{call-verdict}
+use Rattle.laws.specs.Makes.{make-accepts, make-refuses}
 use Rattle.demands.specs.Demand1.{order, given, firstGiven, Untouched, Answers, FreshAnswers}
 
 -- ---- the table
@@ -76,7 +77,7 @@ module _ (s : Lent) where
   short out es = ap (ltb (length out)) (sym (flat-length es))
 
   pub first : (c : Call) → verdict c s ≡ firstGiven (order c) (given c s)
-  unfolding verdict refusal writeRefusal trimRefusal readRefusal reclaimRefusal firstGiven leaves lists
+  unfolding tested refusal writeRefusal trimRefusal readRefusal reclaimRefusal firstGiven leaves lists
   first (Call.write k l n out) =
       row Refusal.Shape refl (row Refusal.Damaged refl (row Refusal.Range (ranged-write l n) (number-row k
       (row Refusal.NoPages refl (row Refusal.NoNodes (many-write k l n) (row Refusal.OutShort (short out (pieces l n d)) refl))))))
@@ -128,29 +129,23 @@ reports s e = ap (λ (o : Outcome Lent). o .counts) (accepted-on Call.report s e
 
 -- ---- fresh
 
-module _ (b n l m : ℕ) (es bs ss : List ℕ) where
-  abbrev made : Outcome Lent
-  made = record { refusal = 0; counts = []; after = wordsOf (freshDevice b n l m); out = [] }
-
-  abbrev kept : Outcome Lent
-  kept = record { refusal = number Refusal.Shape; counts = []; after = lent (sizesOnly b n l m) es bs ss; out = [] }
-
-  fresh-by : (t : Bool) → t ≡ (sizes b n l m && lengths b n m (length es) (length bs) (length ss)) → FreshAnswers b n l m es bs ss (cond t made kept)
-  fresh-by true e = record {
-    refusal = rw (← e);
-    refused = λ h. absurd (h refl);
-    accepted = λ h. sym (fresh-words b n l m (sizes-true b n l m (and-split (sizes b n l m) (lengths b n m (length es) (length bs) (length ss)) (sym e) .0)));
-    counts = refl;
-    out = refl;
-  }
-  fresh-by false e = record {
-    refusal = rw (← e);
-    refused = λ h. refl;
-    accepted = λ h. absurd (omega arith);
-    counts = refl;
-    out = refl;
-  }
-
-  pub fresh-answers : FreshAnswers b n l m es bs ss (fresh b n l m es bs ss)
-  unfolding fresh
-  fresh-answers = fresh-by (sizes b n l m && lengths b n m (length es) (length bs) (length ss)) refl
+pub fresh-answers : (b n l m : ℕ) (es bs ss : List ℕ) → FreshAnswers b n l m es bs ss (fresh b n l m es bs ss)
+unfolding fresh shape refuse
+fresh-answers b n l m es bs ss =
+    let size = sizes b n l m in
+    let fit = lengths b n m (length es) (length bs) (length ss) in
+    cases (size && fit)
+    (λ e. subst (FreshAnswers b n l m es bs ss) (make-accepts (fromSizes b n l m) es bs ss (rw e) _ refl) (record {
+      refusal = rw e;
+      refused = λ h. absurd (h refl);
+      accepted = λ h. sym (fresh-words b n l m (sizes-true b n l m (and-split size fit e .0)));
+      counts = refl;
+      out = refl;
+    }))
+    (λ e. subst (FreshAnswers b n l m es bs ss) (make-refuses (fromSizes b n l m) es bs ss (number Refusal.Shape) (λ z. omega arith) (rw e)) (record {
+      refusal = rw e;
+      refused = λ h. refl;
+      accepted = λ h. absurd (omega arith);
+      counts = refl;
+      out = refl;
+    }))

@@ -1,33 +1,36 @@
 -- Where histories start: any sound state on a flash that is erased from each fill on, and the fresh device on erased flash.
 use Prim.Native.Nat.{ℕ, _+_, _*_, _<_}
-use mathlib.Core.Bool.{true, _&&_}
-use mathlib.Core.Path.{_≡_, sym, ap, _∙_}
+use mathlib.Core.Bool.{true, not, _&&_}
+use mathlib.Core.Path.{_≡_, sym, ap, _∙_, subst}
 use mathlib.Core.List.{List}
 use mathlib.Core.Logic.{by-cases}
 use native.Mathlib.Omega.{arith}
 use native.Mathlib.Decide.{decLt}
+use borrow.Author.Tests.{not-false}
 use lib.ListN.{length, getD, replicate, length-replicate, List·getD-eq-default}
+use lib.Seq.{ext-getD}
 use Rattle.rules.specs.Counting.{tabulate}
 use Rattle.rules.specs.Extents.{none}
 use Rattle.rules.specs.Lent.{Lent, fillOf}
-use Rattle.rules.specs.Shape.{sizes, lengths, shaped}
+use Rattle.rules.specs.Shape.{sizes, lengths, shape, shaped}
 use Rattle.rules.specs.Sound.{sound}
 use Rattle.rules.specs.Device.{blocks, lines, at, extents, deviceOf, headOf, wordsOf}
-use Rattle.rules.specs.Calls.{freshDevice, fresh}
-use Rattle.laws.specs.Bools.{cases, and-split}
+use Rattle.rules.specs.Calls.{freshDevice, fromSizes, fresh}
+use Rattle.rules.specs.declared.Refusal.{Refusal}
+use Rattle.laws.specs.Bools.{and-split}
 use Rattle.laws.specs.Cells.{length-tabulate, getD-tabulate, replicate-at}
 use Rattle.laws.specs.Runs.{runs-holes}
-use Rattle.laws.specs.Fresh.{fresh-blocks, fresh-lines, fresh-at, fresh-sound}
+use Rattle.laws.specs.Fresh.{fresh-fill, fresh-blocks, fresh-lines, fresh-at, fresh-sound}
 use Rattle.demands.specs.Flash.{Cell, erased, hole, contents}
 use Rattle.demands.specs.Shows.{see-hole, Clean}
 use Rattle.laws.specs.Sane.{Sizes, Good}
 use Rattle.laws.specs.Shapes.{sizes-true, pages-fit}
-use Rattle.laws.specs.States.{device-lines, device-blocks, device-fill, good-shaped, good-sound}
-use Rattle.laws.specs.Kept.{device-good, device-is}
+use Rattle.laws.specs.States.{device-lines, device-blocks, device-fill, words-fill}
+use Rattle.laws.specs.Kept.{refuse-none, device-good, device-is}
+use Rattle.laws.specs.Makes.{make-leaves, make-sound}
 use Rattle.demands.specs.Host.{reads, ErasedFromFill, begin}
 use Rattle.demands.specs.Demand2.{beginFresh}
-use Rattle.demands.specs.Agrees.{Agrees}
-use Rattle.demands.specs.Worlds.{Holds, world, reads-contents}
+use Rattle.demands.specs.Worlds.{Holds, reads-contents}
 
 -- ---- a sound state
 
@@ -70,11 +73,26 @@ module _ (s : Lent) (z : shaped s ≡ true) (e : sound s ≡ true) where
 
 -- ---- the fresh device
 
+-- flash that is erased, of a state's size
+abbrev pub erasedFlash : Lent → List Cell
+erasedFlash s = replicate (s .head .blocks * s .head .pages) erased
+
+pub erased-all : (s : Lent) → ErasedFromFill s (erasedFlash s)
+erased-all s = record {
+  whole = length-replicate (s .head .blocks * s .head .pages) erased;
+  blank = λ b o h k i. replicate-at erased (s .head .blocks * s .head .pages) (b * s .head .pages + o);
+}
+
+every : {A : Type 0} (n : ℕ) (x : A) (f : ℕ → A) → ((i : ℕ) → i < n → f i ≡ x) → replicate n x ≡ tabulate n f
+every n x f h =
+    ext-getD x (replicate n x) (tabulate n f) (length-replicate n x ∙ sym (length-tabulate n f))
+    (λ i k. let t : i < n = omega (arith, length-replicate n x) in replicate-at x n i ∙ sym (getD-tabulate n f i x t ∙ h i t))
+
 module _ (b n l m : ℕ) (z : sizes b n l m ≡ true) where
   is-sized : Sizes b n l m
   is-sized = sizes-true b n l m z
 
-  pub fresh-good : Good (freshDevice b n l m)
+  fresh-good : Good (freshDevice b n l m)
   unfolding freshDevice extents
   fresh-good = record {
     sizes = rw (fresh-blocks b n l m, fresh-lines b n l m) is-sized;
@@ -82,44 +100,37 @@ module _ (b n l m : ℕ) (z : sizes b n l m ≡ true) where
     few = omega (arith, ap length (runs-holes n 0 l));
   }
 
-  fresh-agrees : Agrees (freshDevice b n l m) (replicate (b * n) erased) (replicate l hole)
-  unfolding freshDevice contents
-  fresh-agrees = record {
-    clean = record { whole = rw (fresh-blocks b n l m) (length-replicate (b * n) erased); blank = λ c o h k i. replicate-at erased (b * n) (c * n + o) };
-    size = length-replicate l hole ∙ sym (fresh-lines b n l m);
-    says = λ k. see-hole (replicate (b * n) erased) (at (freshDevice b n l m) k) (fresh-at b n l m k) ∙ sym (replicate-at hole l k);
-  }
-
-  fresh-is : beginFresh (wordsOf (freshDevice b n l m)) ≡ world (freshDevice b n l m) (replicate (b * n) erased) (replicate l hole)
-  unfolding beginFresh wordsOf headOf freshDevice
-  fresh-is = rw (fresh-blocks b n l m, fresh-lines b n l m)
-
-  pub fresh-holds : Holds l (beginFresh (wordsOf (freshDevice b n l m)))
-  fresh-holds = record {
-    device = freshDevice b n l m;
-    flash = replicate (b * n) erased;
-    table = replicate l hole;
-    is = fresh-is;
-    good = fresh-good;
-    lines = fresh-lines b n l m;
-    agrees = fresh-agrees;
-  }
+  -- on erased flash it begins as any state does: no page is programmed, and every line reads as a hole
+  fresh-begins : let s = wordsOf (freshDevice b n l m) in beginFresh s ≡ begin s (erasedFlash s)
+  unfolding beginFresh begin wordsOf headOf contents
+  fresh-begins =
+      let d = freshDevice b n l m in
+      let s = wordsOf d in
+      let f = erasedFlash s in
+      λ i. record {
+        state = s;
+        flash = f;
+        programmed = every (blocks d) 0 (fillOf s) (λ c h. words-fill d c ∙ fresh-fill b n l m c) i;
+        table = every (lines d) hole (reads s f) (λ k h. reads-contents d f fresh-good k h ∙ see-hole f (at d k) (fresh-at b n l m k)) i;
+      }
 
 -- an accepted fresh leaves that state, whatever was lent
-pub fresh-leaves : (b n l m : ℕ) (es bs ss : List ℕ) → fresh b n l m es bs ss .refusal ≡ 0
-    → (sizes b n l m ≡ true) × (fresh b n l m es bs ss .after ≡ wordsOf (freshDevice b n l m))
-unfolding fresh
-fresh-leaves b n l m es bs ss e =
-    let size = sizes b n l m in
-    let fit = lengths b n m (length es) (length bs) (length ss) in
-    cases (size && fit)
-    (λ t. (and-split size fit t .0, rw t))
-    (λ t. let g : _≡_ {A = ℕ} 1 0 = rw t at e in absurd (omega arith))
+module _ (b n l m : ℕ) (es bs ss : List ℕ) (e : fresh b n l m es bs ss .refusal ≡ 0) where
+  leaves : (sizes b n l m ≡ true) × (fresh b n l m es bs ss .after ≡ wordsOf (freshDevice b n l m))
+  unfolding fresh shape
+  leaves =
+      let p = make-leaves (fromSizes b n l m) es bs ss e in
+      let size = sizes b n l m in
+      let fit = lengths b n m (length es) (length bs) (length ss) in
+      (and-split size fit (not-false (size && fit) (refuse-none (not (size && fit)) Refusal.Shape 0 (p .0) .0)) .0, p .1)
 
--- which is sound
-pub fresh-leaves-sound : (b n l m : ℕ) (es bs ss : List ℕ) → fresh b n l m es bs ss .refusal ≡ 0
-    → (shaped (fresh b n l m es bs ss .after) ≡ true) × (sound (fresh b n l m es bs ss .after) ≡ true)
-fresh-leaves-sound b n l m es bs ss e =
-    let p = fresh-leaves b n l m es bs ss e in
-    let g = fresh-good b n l m (p .0) in
-    (rw (p .1) (good-shaped (freshDevice b n l m) g), rw (p .1) (good-sound (freshDevice b n l m) g))
+  pub made-good : Good (freshDevice b n l m)
+  made-good = fresh-good b n l m (leaves .0)
+
+  pub made-begins : let s = fresh b n l m es bs ss .after in beginFresh s ≡ begin s (erasedFlash s)
+  made-begins = subst (λ (s : Lent). beginFresh s ≡ begin s (erasedFlash s)) (sym (leaves .1)) (fresh-begins b n l m (leaves .0))
+
+  -- which is sound
+  pub fresh-leaves-sound : (shaped (fresh b n l m es bs ss .after) ≡ true) × (sound (fresh b n l m es bs ss .after) ≡ true)
+  unfolding fresh
+  fresh-leaves-sound = make-sound (fromSizes b n l m) es bs ss made-good e

@@ -1,6 +1,6 @@
 -- The hypotheses of the theorems can be met, and what they speak of happens: by computing, on the device of P3 and on the smallest one.
 use Prim.Native.Nat.{ℕ, _+_, _-_, _*_, _^_, _≤_}
-use mathlib.Core.Bool.{true, false}
+use mathlib.Core.Bool.{true, false, not}
 use mathlib.Core.Path.{_≡_, refl}
 use mathlib.Core.List.{List, [], _∷_, _++_}
 use mathlib.Core.Logic.{inl}
@@ -8,13 +8,18 @@ use native.Mathlib.Omega.{arith}
 use lib.ListN.{take, drop, replicate}
 use Rattle.rules.specs.Blocks.{stride}
 use Rattle.rules.specs.Lent.{Lent, lent}
-use Rattle.rules.specs.Shape.{shaped}
+use Rattle.rules.specs.Shape.{shape, shaped}
 use Rattle.rules.specs.Sound.{sound}
+use Rattle.rules.specs.Device.{at, deviceOf}
+use Rattle.rules.specs.Answers.{Outcome, refuse}
+use Rattle.rules.specs.Makes.{Make, make}
 use Rattle.rules.specs.Calls.{Call, call, sizesOnly, fresh}
 use Rattle.rules.specs.Request.{kept}
 use Rattle.rules.specs.Opened.{opened}
 use Rattle.rules.specs.declared.Refusal.{Refusal}
 use Rattle.laws.specs.Cells.{replicate-at}
+use Rattle.laws.specs.Sane.{Good}
+use Rattle.laws.specs.Kept.{device-good}
 use Rattle.demands.specs.Flash.{Cell, erased, see}
 use Rattle.demands.specs.Host.{Ask, Op, programs, copies, toDo, ops, does, doing, marks, marking, shown, reads, World, step, run, ErasedFromFill, begin}
 use Rattle.demands.specs.Requests.{carries}
@@ -44,6 +49,17 @@ sound3 = run p3 (started 4 16 32 16) .state
 
 abbrev blank : List Cell
 blank = replicate 64 erased
+
+-- a make that is no fresh: it leaves the device of P3, in words of its lengths
+abbrev restoring : Make
+restoring = record {
+  refusal = λ ofExtents ofBlocks ofSpare. refuse (not (shape (sound3 .head) ofExtents ofBlocks ofSpare)) Refusal.Shape 0;
+  device = deviceOf sound3;
+  head = sizesOnly 0 0 0 0;
+}
+
+abbrev restored : Outcome Lent
+restored = make restoring (replicate 48 7) (replicate (stride * 4) 7) (replicate 64 7)
 
 -- buffers of 10 words for the reclaims
 abbrev tens : ℕ → List ℕ
@@ -89,6 +105,12 @@ pub record Met : Type 0 where
   pub is-shaped : shaped sound3 ≡ true
   pub is-sound : sound sound3 ≡ true
   pub is-erased : ErasedFromFill sound3 blank
+  -- demand 2 of a make: one whose device is good and holds pages, accepted on words that held something else, with such a flash; and one that is refused
+  pub is-good : Good (restoring .device)
+  pub make-accepted : restored .refusal ≡ 0
+  pub make-mapped : at (restoring .device) 9 ≡ 11
+  pub make-erased : ErasedFromFill (restored .after) blank
+  pub make-refused : make restoring [] [] [] .refusal ≡ 1
   -- demand 3: a write of 7 pages, since 8 + 7 + 1 extents fit in 16 slots; one reclaim is made, whose answer just fits, and so does the write's
   pub asked : Asked (sound3 .head) 8 0 7
   pub limit : sound3 .head .blocks - 1 ≤ 3
@@ -116,6 +138,11 @@ met = record {
   is-shaped = refl;
   is-sound = refl;
   is-erased = record { whole = refl; blank = λ b o h k i. replicate-at Cell.erased 64 (b * 16 + o) };
+  is-good = device-good sound3 refl refl;
+  make-accepted = refl;
+  make-mapped = refl;
+  make-erased = record { whole = refl; blank = λ b o h k i. replicate-at Cell.erased 64 (b * 16 + o) };
+  make-refused = refl;
   asked = record { some = omega arith; block = omega arith; inside = omega arith; newer = omega arith; slots = inl (omega arith) };
   limit = omega arith;
   roomy = λ y. (omega arith, λ z. absurd (z refl));

@@ -6,7 +6,7 @@ use Rattle.rules.specs.Lent.{Lent}
 use Rattle.rules.specs.Shape.{shaped}
 use Rattle.rules.specs.Device.{Device, wordsOf}
 use Rattle.rules.specs.Answers.{number, refuse}
-use Rattle.rules.specs.Calls.{Call, refusal, counts, leaves, lists, buffer, over, refused, accepted, plainCall, encoded, verdict, acceptedOn, call}
+use Rattle.rules.specs.Calls.{Call, refusal, counts, leaves, lists, buffer, over, refused, accepted, plainCall, encoded, tested, verdict, acceptedOn, call}
 use Rattle.rules.specs.declared.Refusal.{Refusal}
 use lib.Dec.{eqb}
 use Rattle.laws.specs.Bools.{cases}
@@ -15,7 +15,7 @@ use Rattle.laws.specs.States.{words-device, good-shaped, good-sound}
 
 module _ (c : Call) (d : Device) (g : Good d) where
   pub verdict-words : verdict c (wordsOf d) ≡ refusal c d
-  unfolding verdict refuse
+  unfolding tested refuse
   verdict-words = rw (good-shaped d g, good-sound d g) (ap (refusal c) (words-device d g))
 
   accepted-words : acceptedOn c (wordsOf d) ≡ encoded (accepted c d)
@@ -36,5 +36,5 @@ module _ (c : Call) (d : Device) (g : Good d) where
 
 -- 01, Refusals, 1 and 2
 pub call-shape : (c : Call) (s : Lent) → shaped s ≡ false → call c s ≡ refused (number Refusal.Shape) c s
-unfolding call verdict refuse
+unfolding call tested refuse
 call-shape c s e = rw e

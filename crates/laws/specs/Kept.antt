@@ -18,7 +18,7 @@ use Rattle.rules.specs.Request.{applied, judged, withTable, numbered, written, 
 use Rattle.rules.specs.Reclaim.{victim, sources, reclaimed}
 use Rattle.rules.specs.Read.{found}
 use Rattle.rules.specs.Answers.{refuse}
-use Rattle.rules.specs.Calls.{Call, outside, tooMany, writeRefusal, trimRefusal, readRefusal, reclaimRefusal, refusal, leaves, refused, verdict, acceptedOn, call}
+use Rattle.rules.specs.Calls.{Call, outside, tooMany, writeRefusal, trimRefusal, readRefusal, reclaimRefusal, refusal, leaves, refused, tested, verdict, acceptedOn, call}
 use Rattle.rules.specs.declared.Refusal.{Refusal}
 use Rattle.laws.specs.Bools.{or-split}
 use Rattle.laws.specs.Device.{Sound}
@@ -236,7 +236,7 @@ pub record AcceptedIn (c : Call) (s : Lent) : Type 0 where
   pub after : call c s .after ≡ wordsOf (leaves c (deviceOf s))
 
 pub accepted-in : (c : Call) (s : Lent) → call c s .refusal ≡ 0 → AcceptedIn c s
-unfolding call acceptedOn verdict
+unfolding call acceptedOn tested
 accepted-in c s e =
     let v : verdict c s ≡ 0 = sym (call-verdict c s) ∙ e in
     let a = refuse-none (not (shaped s)) Refusal.Shape _ v in

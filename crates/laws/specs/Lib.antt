@@ -34,5 +34,7 @@ pub mod States
 pub mod Calls
 pub mod Encoded
 pub mod Kept
+pub mod Views
+pub mod Makes
 pub mod Growth
 pub mod Alike

@@ -1,19 +1,20 @@
 -- The six calls: first on a plain device, with their refusals from Range on; then on lent words, where Shape and Damaged come before.
 use Prim.Native.Nat.{ℕ, _+_, _-_, _*_}
-use mathlib.Core.Bool.{Bool, not, cond, _&&_, _||_}
+use mathlib.Core.Bool.{Bool, not, cond, _||_}
 use mathlib.Core.List.{List, [], _∷_, _++_}
 use lib.Dec.{eqb, ltb}
 use lib.ListN.{length, drop, replicate}
 use Rattle.rules.specs.Extents.{none, flat}
 use Rattle.rules.specs.Lent.{Lent}
-use Rattle.rules.specs.Shape.{sizes, lengths, shaped}
+use Rattle.rules.specs.Shape.{shape, shaped}
 use Rattle.rules.specs.Sound.{sound}
 use Rattle.rules.specs.Device.{Device, lines, free, live, stale, extents, deviceOf, wordsOf}
 use Rattle.rules.specs.Placement.{puts, pieces}
 use Rattle.rules.specs.Reclaim.{victim, sources, reclaimed}
 use Rattle.rules.specs.Read.{found}
 use Rattle.rules.specs.Request.{judged, kept, written, trimmed}
-use Rattle.rules.specs.Answers.{Outcome, refuse, number}
+use Rattle.rules.specs.Answers.{Outcome, refuse}
+use Rattle.rules.specs.Makes.{Make, make}
 use Rattle.rules.specs.declared.Head.{Head}
 use Rattle.rules.specs.declared.Refusal.{Refusal}
 
@@ -134,9 +135,12 @@ plainCall c d = cond (eqb (refusal c d) 0) (accepted c d) (refused (refusal c d)
 unfoldable pub encoded : Outcome Device → Outcome Lent
 encoded o = record { refusal = o .refusal; counts = o .counts; after = wordsOf (o .after); out = o .out }
 
--- 1, then 2, then what the plain device gives
-unfoldable pub verdict : Call → Lent → ℕ
-verdict c s = refuse (not (shaped s)) Refusal.Shape (refuse (not (sound s)) Refusal.Damaged (refusal c (deviceOf s)))
+-- 1, then 2, then what the plain device gives by a call's own refusals
+unfoldable pub tested : (Device → ℕ) → Lent → ℕ
+tested own s = refuse (not (shaped s)) Refusal.Shape (refuse (not (sound s)) Refusal.Damaged (own (deviceOf s)))
+
+abbrev pub verdict : Call → Lent → ℕ
+verdict c s = tested (refusal c) s
 
 -- the outcome on the state's plain device, its device as words
 unfoldable pub acceptedOn : Call → Lent → Outcome Lent
@@ -169,13 +173,12 @@ abbrev pub sizesOnly : ℕ → ℕ → ℕ → ℕ → Head
 sizesOnly b n l m = record { blocks = b; pages = n; logical = l; slots = m; used = 0; reserve = 0; last = kept 0 }
 
 -- fresh is given B, N, L and M alone, tests only these and the lengths, and takes no heed of old contents
+abbrev pub fromSizes : ℕ → ℕ → ℕ → ℕ → Make
+fromSizes b n l m = record {
+  refusal = λ ofExtents ofBlocks ofSpare. refuse (not (shape (sizesOnly b n l m) ofExtents ofBlocks ofSpare)) Refusal.Shape 0;
+  device = freshDevice b n l m;
+  head = sizesOnly b n l m;
+}
+
 unfoldable pub fresh : ℕ → ℕ → ℕ → ℕ → List ℕ → List ℕ → List ℕ → Outcome Lent
-fresh b n l m extentWords blockWords spare =
-    cond (sizes b n l m && lengths b n m (length extentWords) (length blockWords) (length spare))
-    (record { refusal = 0; counts = []; after = wordsOf (freshDevice b n l m); out = [] })
-    (record {
-      refusal = number Refusal.Shape;
-      counts = [];
-      after = record { head = sizesOnly b n l m; extentWords = extentWords; blockWords = blockWords; spare = spare };
-      out = [];
-    })
+fresh b n l m extentWords blockWords spare = make (fromSizes b n l m) extentWords blockWords spare

@@ -10,8 +10,11 @@ pub mod Reclaim
 pub mod Read
 pub mod Answers
 pub mod Request
+pub mod Makes
 pub mod Calls
+pub mod Views
 pub mod Opened
 pub mod Cases
 pub mod Marked
 pub mod MarkedRows
+pub mod MarkedViews

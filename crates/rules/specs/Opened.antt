@@ -10,8 +10,10 @@ use Rattle.rules.specs.Reclaim.{victim, sources, goes, copied, moved, re
 use Rattle.rules.specs.Read.{withHole, withHoles, found}
 use Rattle.rules.specs.Request.{applied, judged, withTable, numbered, written, trimmed}
 use Rattle.rules.specs.Answers.{refuse}
-use Rattle.rules.specs.Calls.{outside, tooMany, writeRefusal, trimRefusal, readRefusal, reclaimRefusal, refusal, counts, leaves, lists, over, refused, verdict}
+use Rattle.rules.specs.Calls.{outside, tooMany, writeRefusal, trimRefusal, readRefusal, reclaimRefusal, refusal, counts, leaves, lists, over, refused, tested}
 use Rattle.rules.specs.Calls.{acceptedOn, call, freshDevice, fresh}
+use Rattle.rules.specs.Makes.{make}
+use Rattle.rules.specs.Views.{view}
 
 unfoldable pub opened : Unit {0}
 unfolding sum count all first most picks tabulate among
@@ -22,5 +24,5 @@ unfolding sum count all first most picks tabulate among
     victim sources goes copied moved reclaimedAt reclaimed withHole withHoles found
     applied judged withTable numbered written trimmed refuse
     outside tooMany writeRefusal trimRefusal readRefusal reclaimRefusal refusal counts leaves lists over refused
-    verdict acceptedOn call freshDevice fresh
+    tested acceptedOn call view freshDevice make fresh
 opened = tt

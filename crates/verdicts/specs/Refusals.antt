@@ -8,13 +8,15 @@ use borrow.Author.Tests.{eq-eqb, ne-eqb, not-true, not-false, leb-true, leb-fals
 use lib.Dec.{eqb, ltb, leb}
 use Rattle.laws.specs.Bools.{cases}
 use Rattle.laws.specs.Kept.{refuse-none}
+use Rattle.laws.specs.Views.{view-refuses}
 use lib.ListN.{length, replicate}
 use Rattle.rules.specs.Lent.{Lent}
 use Rattle.rules.specs.Shape.{shaped}
 use Rattle.rules.specs.Sound.{sound}
 use Rattle.rules.specs.Device.{Device, deviceOf}
 use Rattle.rules.specs.Answers.{Outcome, number, refuse}
-use Rattle.rules.specs.Calls.{Call, refusal, refused, verdict, acceptedOn, call}
+use Rattle.rules.specs.Calls.{Call, refusal, refused, tested, verdict, acceptedOn, call}
+use Rattle.rules.specs.Views.{View, view}
 use Rattle.rules.specs.declared.Refusal.{Refusal}
 use Rattle.verdicts.specs.declared.Verdict.{Verdict}
 
@@ -118,21 +120,23 @@ module _ (s : Lent) where
   lent-first t u a b e f p q =
       first-then a Refusal.Shape p (ap not e) (λ g. q ∙ ap (λ (x : Bool). refuse (not x) Refusal.Damaged 0) (f (e ∙ not-false (shaped s) g)))
 
+-- 1 and 2, before the refusals of a call's own
+module _ (own : Device → ℕ) (s : Lent) where
+  pub tested-shape : shaped s ≡ false → tested own s ≡ number Refusal.Shape
+  unfolding tested
+  tested-shape e = refuse-here _ Refusal.Shape _ (ap not e)
+
+  pub tested-damaged : shaped s ≡ true → sound s ≡ false → tested own s ≡ number Refusal.Damaged
+  unfolding tested
+  tested-damaged e f = refuse-later _ Refusal.Shape _ (ap not e) ∙ refuse-here _ Refusal.Damaged _ (ap not f)
+
+  pub tested-plain : shaped s ≡ true → sound s ≡ true → tested own s ≡ own (deviceOf s)
+  unfolding tested
+  tested-plain e f = refuse-later _ Refusal.Shape _ (ap not e) ∙ refuse-later _ Refusal.Damaged _ (ap not f)
+
+-- ---- the answer
+
 module _ (c : Call) (s : Lent) where
-  pub verdict-shape : shaped s ≡ false → verdict c s ≡ number Refusal.Shape
-  unfolding verdict
-  verdict-shape e = refuse-here _ Refusal.Shape _ (ap not e)
-
-  pub verdict-damaged : shaped s ≡ true → sound s ≡ false → verdict c s ≡ number Refusal.Damaged
-  unfolding verdict
-  verdict-damaged e f = refuse-later _ Refusal.Shape _ (ap not e) ∙ refuse-here _ Refusal.Damaged _ (ap not f)
-
-  pub verdict-plain : shaped s ≡ true → sound s ≡ true → verdict c s ≡ refusal c (deviceOf s)
-  unfolding verdict
-  verdict-plain e f = refuse-later _ Refusal.Shape _ (ap not e) ∙ refuse-later _ Refusal.Damaged _ (ap not f)
-
-  -- ---- the answer
-
   pub call-refused : (r : Refusal) → verdict c s ≡ number r → refused (number r) c s ≡ call c s
   unfolding call
   call-refused r e = rw (e, ne-eqb (number r) 0 (number-some r))
@@ -150,17 +154,22 @@ lent-none s e =
     let u = refuse-none (not (sound s)) Refusal.Damaged 0 (t .1) in
     (not-false (shaped s) (t .0), not-false (sound s) (u .0))
 
-pub lent-some : (c : Call) (s : Lent) (r : Refusal) → number r ≡ lentRefusal s → verdict c s ≡ number r
-lent-some c s r e =
+pub lent-some : (own : Device → ℕ) (s : Lent) (r : Refusal) → number r ≡ lentRefusal s → tested own s ≡ number r
+lent-some own s r e =
     cases (shaped s)
     (λ f. cases (sound s)
     (λ g. absurd (number-some r (e ∙ sym (lent-sound s f g))))
-    (λ g. verdict-damaged c s f g ∙ lent-damaged s f g ∙ sym e))
-    (λ f. verdict-shape c s f ∙ lent-shape s f ∙ sym e)
+    (λ g. tested-damaged own s f g ∙ lent-damaged s f g ∙ sym e))
+    (λ f. tested-shape own s f ∙ lent-shape s f ∙ sym e)
 
 -- a call that was told to refuse
 pub lent-refuses : (c : Call) (s : Lent) (v : Verdict) (r : Refusal) → told v ≡ lentRefusal s → v ≡ Verdict.Refused r → refused (number r) c s ≡ call c s
-lent-refuses c s v r e f = call-refused c s r (lent-some c s r (sym (ap told f) ∙ e))
+lent-refuses c s v r e f = call-refused c s r (lent-some (refusal c) s r (sym (ap told f) ∙ e))
+
+-- a view that was told to refuse
+pub view-told : (v : View) (s : Lent) (a : Verdict) (r : Refusal) → told a ≡ lentRefusal s → a ≡ Verdict.Refused r
+    → _≡_ {A = Outcome Lent} (record { refusal = number r; counts = replicate (v .zeros) 0; after = s; out = v .buffer }) (view v s)
+view-told v s a r e f = view-refuses v s (number r) (number-some r) (lent-some (v .refusal) s r (sym (ap told f) ∙ e))
 
 pub lent-accepts : (s : Lent) (v : Verdict) → told v ≡ lentRefusal s → v ≡ Verdict.Accepted → (shaped s ≡ true) × (sound s ≡ true)
 lent-accepts s v e f = lent-none s (sym (ap told f) ∙ e)

@@ -1,13 +1,16 @@
-use Rattle.rules.specs.Lent.{lent}
+use Rattle.rules.specs.Lent.{Lent, lent}
 use Rattle.accepted.specs.Report.{report-filled, report-counts}
 use Rattle.accepted.proofs.count_pages.Statement.{statement}
 use Rattle.accepted.proofs.count_pages.Tie as tie
 
+abbrev state : tie.Start → Lent
+state s = lent (s .args .h) (s .args .ext .now) (s .args .blk .now) (s .args .spare .now)
+
 totals-of-requires : tie.Need-totals-of-requires
-totals-of-requires c κs = report-filled (lent (c .before .before .before .args .h) (c .before .before .before .args .ext .now) (c .before .before .before .args .blk .now) (c .before .before .before .args .spare .now)) (c .before .before .before .pre)
+totals-of-requires c κs = let s = c .before .before .before in report-filled (state s) (s .pre)
 
 returns : tie.Need-returns
-returns c = report-counts (lent (c .before .before .before .before .args .h) (c .before .before .before .before .args .ext .now) (c .before .before .before .before .args .blk .now) (c .before .before .before .before .args .spare .now)) _ (c .before .before .before .before .pre) (c .totals-of .ensures)
+returns c = let s = c .before .before .before .before in report-counts (state s) (s .pre) _ (c .totals-of .ensures)
 
 pub count-pages-spec : {M : Type 1} → statement M
 count-pages-spec = tie.close (tie.spec totals-of-requires returns)

@@ -1,5 +1,4 @@
 use borrow.Author.Needs.{needs}
-use mathlib.Core.List.{[], _∷_}
 use native.Mathlib.Omega.{arith}
 use Rattle.rules.specs.Lent.{Lent, lent}
 use Rattle.rules.specs.Device.{deviceOf}
@@ -7,8 +6,8 @@ use Rattle.rules.specs.Calls.{Call, refused}
 use Rattle.laws.specs.Sane.{Shaped, Sane}
 use Rattle.verdicts.specs.Refusals.{lent-refuses}
 use Rattle.verdicts.specs.Reading.{rows-sound}
-use Rattle.accepted.specs.Accepts.{Ready, read-room, ready-state, ready, refuses, accepts}
-use Rattle.accepted.specs.Reads.{read-counts, read-lists, read-leaves}
+use Rattle.accepted.specs.Accepts.{Ready, read-room, ready-state, ready, refuses}
+use Rattle.accepted.specs.Reads.{read-answer}
 use Rattle.verdicts.specs.declared.Verdict.{Verdict}
 use mathlib.Core.Path.{_≡_}
 use Rattle.layer.proofs.read.Statement.{statement}
@@ -91,11 +90,7 @@ returns-3 c =
     let w = c .before .before .before .before .before .before in
     let s = start (w .before .before .before) in
     let a = s .args in
-    let z = accepted w (c .before .before .before .before .enum-told2 .given .1) in
-    accepts (asks s) (state s) z (c .before .before .list-pieces .result ∷ []) _ (state s)
-    (read-counts (a .l) (a .n) (a .out .now) (state s) z _ (c .before .before .list-pieces .ensures .pieces))
-    (read-leaves (a .l) (a .n) (a .out .now) (state s) z)
-    (read-lists (a .l) (a .n) (a .out .now) (state s) z _ (c .before .before .list-pieces .ensures .words))
+    read-answer (a .l) (a .n) (a .out .now) (state s) (accepted w (c .before .before .before .before .enum-told2 .given .1)) _ _ (c .before .before .list-pieces .ensures)
 
 pub read-spec : {M : Type 1} → statement M
 read-spec =

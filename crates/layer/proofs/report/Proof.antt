@@ -1,9 +1,14 @@
+use mathlib.Core.Path.{sym, _∙_}
 use borrow.Author.Needs.{needs}
-use Rattle.rules.specs.Lent.{lent}
-use Rattle.rules.specs.Calls.{Call, refused}
-use Rattle.verdicts.specs.Refusals.{lent-refuses, lent-accepts}
+use Rattle.rules.specs.Lent.{Lent, lent}
+use Rattle.rules.specs.Views.{reporting}
+use Rattle.laws.specs.Views.{report-view}
+use Rattle.verdicts.specs.Refusals.{lent-accepts, view-told}
 use Rattle.layer.proofs.report.Statement.{statement}
 use Rattle.layer.proofs.report.Tie as tie
+
+abbrev state : tie.Start → Lent
+state s = lent (s .args .h) (s .args .ext .now) (s .args .blk .now) (s .args .spare .now)
 
 lent-verdict-requires : tie.Need-lent-verdict-requires
 lent-verdict-requires c κs = search needs
@@ -12,8 +17,9 @@ enum-known-v : tie.Need-enum-known-v
 enum-known-v c = search needs
 
 returns : tie.Need-returns
-unfolding refused
-returns c = lent-refuses Call.report (lent (c .before .before .before .before .before .before .before .args .h) (c .before .before .before .before .before .before .before .args .ext .now) (c .before .before .before .before .before .before .before .args .blk .now) (c .before .before .before .before .before .before .before .args .spare .now)) _ (c .before .v .given .0 .0) (c .before .before .before .lent-verdict .ensures) (c .before .v .given .1)
+returns c =
+    let s = state (c .before .before .before .before .before .before .before) in
+    view-told reporting s _ (c .before .v .given .0 .0) (c .before .before .before .lent-verdict .ensures) (c .before .v .given .1) ∙ sym (report-view s)
 
 enum-told : tie.Need-enum-told
 enum-told c = search needs
