@@ -3,6 +3,9 @@ use crate::say;
 use rules::Counted;
 use rules::Head;
 
+// The words of the device's block records.
+pub const BLOCK_WORDS: usize = words::STRIDE * 4;
+
 pub struct Accounts {
     pub valid: [u32; 4],
     pub free: u32,
@@ -11,8 +14,13 @@ pub struct Accounts {
 }
 
 impl Accounts {
-    pub fn now(head: Head, ext: &[u32; 24], blk: &[u32; 8], spare: &[u32; 16]) -> Self {
-        let valid = [blk[1], blk[3], blk[5], blk[7]];
+    pub fn now(head: Head, ext: &[u32; 24], blk: &[u32; BLOCK_WORDS], spare: &[u32; 16]) -> Self {
+        let valid = [
+            words::valid_of(blk, 0),
+            words::valid_of(blk, 1),
+            words::valid_of(blk, 2),
+            words::valid_of(blk, 3),
+        ];
         match layer::report(head, ext, blk, spare) {
             Counted::Accepted(free, live, stale, _) => Self {
                 valid: valid,

@@ -5,6 +5,7 @@ mod flash;
 mod say;
 
 use accounts::Accounts;
+use accounts::BLOCK_WORDS;
 use rules::Done;
 use rules::Head;
 use rules::Listed;
@@ -15,7 +16,7 @@ struct Sent {
     is_accepted: bool,
 }
 
-fn fresh(ext: &mut [u32; 24], blk: &mut [u32; 8], spare: &mut [u32; 16]) -> Head {
+fn fresh(ext: &mut [u32; 24], blk: &mut [u32; BLOCK_WORDS], spare: &mut [u32; 16]) -> Head {
     match layer::fresh(4, 4, 8, 8, ext, blk, spare) {
         Done::Accepted(head) => head,
         Done::Refused(refusal, head) => {
@@ -29,7 +30,7 @@ fn fresh(ext: &mut [u32; 24], blk: &mut [u32; 8], spare: &mut [u32; 16]) -> Head
 fn send(
     head: Head,
     ext: &mut [u32; 24],
-    blk: &mut [u32; 8],
+    blk: &mut [u32; BLOCK_WORDS],
     spare: &mut [u32; 16],
     flash: &mut [u32; 16],
     book: &[u32; 8],
@@ -61,7 +62,7 @@ fn send(
 fn first(
     head: Head,
     ext: &mut [u32; 24],
-    blk: &mut [u32; 8],
+    blk: &mut [u32; BLOCK_WORDS],
     spare: &mut [u32; 16],
     flash: &mut [u32; 16],
     book: &[u32; 8],
@@ -79,7 +80,7 @@ fn first(
 fn again(
     head: Head,
     ext: &mut [u32; 24],
-    blk: &mut [u32; 8],
+    blk: &mut [u32; BLOCK_WORDS],
     spare: &mut [u32; 16],
     flash: &mut [u32; 16],
     book: &[u32; 8],
@@ -117,7 +118,7 @@ fn refund(line: u64, is_accepted: bool) {
 fn reclaim(
     head: Head,
     ext: &mut [u32; 24],
-    blk: &mut [u32; 8],
+    blk: &mut [u32; BLOCK_WORDS],
     spare: &mut [u32; 16],
     flash: &mut [u32; 16],
 ) -> Head {
@@ -141,7 +142,7 @@ fn reclaim(
 fn read_back(
     head: Head,
     ext: &[u32; 24],
-    blk: &[u32; 8],
+    blk: &[u32; BLOCK_WORDS],
     spare: &[u32; 16],
     flash: &[u32; 16],
     book: &[u32; 8],
@@ -180,7 +181,7 @@ fn theorem() {
 fn backup(
     head: Head,
     ext: &mut [u32; 24],
-    blk: &mut [u32; 8],
+    blk: &mut [u32; BLOCK_WORDS],
     spare: &mut [u32; 16],
     flash: &mut [u32; 16],
     book: &mut [u32; 8],
@@ -206,7 +207,7 @@ fn backup(
 fn anew(
     head: Head,
     ext: &mut [u32; 24],
-    blk: &mut [u32; 8],
+    blk: &mut [u32; BLOCK_WORDS],
     spare: &mut [u32; 16],
     flash: &mut [u32; 16],
     book: &[u32; 8],
@@ -220,7 +221,7 @@ fn anew(
 
 fn main() {
     let mut ext = [0u32; 24];
-    let mut blk = [0u32; 8];
+    let mut blk = [0u32; BLOCK_WORDS];
     let mut spare = [0u32; 16];
     let mut flash = [flash::ERASED; 16];
     let mut book = [2500u32, 1240, 6000, 1820, 0, 0, 0, 0];

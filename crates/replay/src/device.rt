@@ -1,8 +1,8 @@
 // What is lent from line to line, and the request of each kind that changes it. No fact about what the layer answers is counted on.
-ghost use Rattle.io.specs.Counts.{Counts};
-use crate::line;
-use crate::line::Wrong;
-use crate::word;
+use lists::line;
+use lists::line::Wrong;
+use lists::within;
+use lists::word;
 use rules::Counted;
 use rules::Done;
 use rules::Head;
@@ -19,7 +19,7 @@ const MOST_SLOTS: usize = 8192;
 // The words that these ask for. No answer is longer than a read of all slots with a hole before each and after the last.
 pub const EXTENT_WORDS: usize = 3 * MOST_SLOTS;
 
-pub const BLOCK_WORDS: usize = 2 * MOST_BLOCKS;
+pub const BLOCK_WORDS: usize = words::STRIDE * MOST_BLOCKS;
 
 pub const SPARE_WORDS: usize = MOST_PAGES;
 
@@ -239,7 +239,7 @@ pub fn fresh(
         return d.says(Answer::Wrong(Wrong::Sizes));
     }
     let e = within(3 * slots as usize, ext);
-    let b = within(2 * blocks as usize, blk);
+    let b = within(words::STRIDE * blocks as usize, blk);
     let s = within(all as usize, spare);
     let done = layer::fresh(
         blocks,
@@ -265,15 +265,7 @@ pub fn poke(d: Device, words: &mut [u32], index: u32, value: u32) -> Step {
     d.says(Answer::Ok)
 }
 
-// ---- lengths
-
-// The number from 0 to the length of words that is nearest to n.
-pub fn within(n: usize, words: &[u32]) -> usize
-    ensures { λ r. ⌜ Counts r (now (words .entry)) ⌝ }
-{
-    if n < words.len() { n } else { words.len() }
-}
-
+// How many pages that many blocks have.
 fn product(a: u32, b: u32) -> u64 {
     a as u64 * b as u64
 }

@@ -7,11 +7,11 @@ use crate::device::Device;
 use crate::device::EXTENT_WORDS;
 use crate::device::SPARE_WORDS;
 use crate::device::Step;
-use crate::device::within;
-use crate::line::Asked;
-use crate::line::Line;
-use crate::print::Sink;
-use crate::word;
+use lists::line::Asked;
+use lists::line::Line;
+use lists::print::Sink;
+use lists::within;
+use lists::word;
 
 pub struct Session {
     pub line: Line,

@@ -1,6 +1,6 @@
 // Answers on their way to standard output, a page of bytes at a time.
-use crate::device::within;
 use crate::line::Wrong;
+use crate::within;
 use libc::STDOUT_FILENO;
 use rules::Head;
 use rules::Refusal;
