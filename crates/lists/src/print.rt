@@ -6,6 +6,17 @@ use rules::Head;
 use rules::Refusal;
 use rules::number_of;
 
+// What is printed for a request, but for a state. The words of a list of pieces or of copied pages stand in the answer buffer.
+pub enum Answer {
+    Nothing,
+    Ok,
+    Refused(Refusal),
+    Pieces(u32),
+    Copied(u32, u32),
+    Counts(u32, u32, u32),
+    Wrong(Wrong),
+}
+
 // How many bytes of the page wait, and whether all before them were written.
 pub struct Sink {
     pub waiting: usize,
@@ -85,77 +96,161 @@ impl Sink {
         s
     }
 
-    pub fn refused(self, page: &mut [u8; 4096], refusal: Refusal) -> Self {
-        let number = number_of(refusal);
-        let s = self.text(page, b"refused").word(page, number as u64);
-        match refusal {
-            Refusal::Shape => s.text(page, b" Shape\n"),
-            Refusal::Damaged => s.text(page, b" Damaged\n"),
-            Refusal::Range => s.text(page, b" Range\n"),
-            Refusal::Applied => s.text(page, b" Applied\n"),
-            Refusal::NoPages => s.text(page, b" NoPages\n"),
-            Refusal::NoNodes => s.text(page, b" NoNodes\n"),
-            Refusal::OutShort => s.text(page, b" OutShort\n"),
-            Refusal::NothingStale => s.text(page, b" NothingStale\n"),
+    // Line k of a table, counted from 1, with n in the place of each `#`. The table is passed over to its end: a line that is found needs no exit.
+    pub fn row(self, page: &mut [u8; 4096], table: &[u8], k: u64, n: u64) -> Self {
+        let mut s = self;
+        let mut left = k;
+        let mut i = 0;
+        while i < table.len() {
+            s = s.at_row(page, left, table[i], n);
+            left = rows_left(left, table[i]);
+            i += 1;
         }
+        s
+    }
+
+    // A byte of a table, which is printed where its line is the one.
+    fn at_row(self, page: &mut [u8; 4096], left: u64, byte: u8, n: u64) -> Self {
+        if left != 1 {
+            return self;
+        }
+        if byte == b'#' {
+            return self.number(page, n);
+        }
+        self.byte(page, byte)
+    }
+
+    pub fn refused(self, page: &mut [u8; 4096], refusal: Refusal) -> Self {
+        let number = wide(number_of(refusal));
+        self.row(page, b"refused # ", 1, number)
+            .name(page, number)
+    }
+
+    // The name of the refusal that has the number, and the end of the line.
+    pub fn name(self, page: &mut [u8; 4096], number: u64) -> Self {
+        self.row(
+            page,
+            b"Shape\nDamaged\nRange\nApplied\nNoPages\nNoNodes\nOutShort\nNothingStale\n",
+            number,
+            0,
+        )
     }
 
     // The line that says what is wrong with line `number`.
     pub fn wrong(self, page: &mut [u8; 4096], number: u64, wrong: Wrong) -> Self {
-        let s = self.text(page, b"line")
-            .word(page, number)
-            .text(page, b": ");
-        match wrong {
-            Wrong::Spaces => s.text(page, b"words not separated by single spaces\n"),
-            Wrong::Unknown => s.text(page, b"unknown request\n"),
-            Wrong::Missing => s.text(page, b"missing word\n"),
-            Wrong::Extra => s.text(page, b"extra word\n"),
-            Wrong::NoBuffer => s.text(page, b"word 2 is not extents, blocks or spare\n"),
-            Wrong::NoField => s.text(page, b"word 2 is not a field of the head\n"),
-            Wrong::NotANumber(place) => {
-                s.text(page, b"word")
-                    .word(page, place)
-                    .text(page, b" is not a number\n")
-            }
-            Wrong::TooLarge(place) => {
-                s.text(page, b"word")
-                    .word(page, place)
-                    .text(page, b" is too large\n")
-            }
-            Wrong::Sizes => s.text(page, b"sizes beyond what this program holds\n"),
-            Wrong::Index => s.text(page, b"index outside\n"),
+        self.row(page, b"line #: ", 1, number)
+            .fault(page, row_of(wrong), place_of(wrong))
+    }
+
+    fn fault(self, page: &mut [u8; 4096], row: u64, place: u64) -> Self {
+        self.row(
+            page,
+            b"words not separated by single spaces\n\
+            unknown request\n\
+            missing word\n\
+            extra word\n\
+            word 2 is not extents, blocks or spare\n\
+            word 2 is not a field of the head\n\
+            word # is not a number\n\
+            word # is too large\n\
+            sizes beyond what this program holds\n\
+            index outside\n",
+            row,
+            place,
+        )
+    }
+
+    // The answer to line `number`. The words of a list stand in the answer buffer.
+    pub fn answer(self, page: &mut [u8; 4096], number: u64, out: &[u32], answer: Answer) -> Self {
+        match answer {
+            Answer::Nothing => self,
+            Answer::Ok => self.text(page, b"ok\n"),
+            Answer::Refused(refusal) => self.refused(page, refusal),
+            Answer::Pieces(count) => self.pieces(page, out, count),
+            Answer::Copied(count, block) => self.copied(page, out, count, block),
+            Answer::Counts(free, live, stale) => self.counts(page, free, live, stale),
+            Answer::Wrong(wrong) => self.wrong(page, number, wrong),
         }
     }
 
+    fn pieces(self, page: &mut [u8; 4096], out: &[u32], count: u32) -> Self {
+        self.list(page, out, count, 3 * count as usize)
+            .byte(page, b'\n')
+    }
+
+    fn copied(self, page: &mut [u8; 4096], out: &[u32], count: u32, block: u32) -> Self {
+        self.list(page, out, count, count as usize)
+            .row(page, b" erase #\n", 1, wide(block))
+    }
+
     // A list of the answer buffer: its count, and then its words, of which there are none but in the buffer.
-    pub fn list(self, page: &mut [u8; 4096], out: &[u32], count: u32, words: usize) -> Self {
+    fn list(self, page: &mut [u8; 4096], out: &[u32], count: u32, words: usize) -> Self {
         let n = within(words, out);
-        self.text(page, b"ok")
-            .word(page, count as u64)
+        self.row(page, b"ok #", 1, wide(count))
             .words(page, &out[..n])
     }
 
+    fn counts(self, page: &mut [u8; 4096], free: u32, live: u32, stale: u32) -> Self {
+        let counts = [free, live, stale];
+        self.lent(page, b"ok", &counts, 3)
+    }
+
     pub fn head(self, page: &mut [u8; 4096], head: Head) -> Self {
-        let s = self.text(page, b"head")
-            .word(page, head.blocks as u64)
-            .word(page, head.pages as u64);
-        let s = s.word(page, head.logical as u64)
-            .word(page, head.slots as u64);
-        let s = s.word(page, head.used as u64)
-            .word(page, head.reserve as u64);
-        s.word(page, head.last).byte(page, b'\n')
+        let sizes = [
+            head.blocks,
+            head.pages,
+            head.logical,
+            head.slots,
+            head.used,
+            head.reserve,
+        ];
+        self.text(page, b"head")
+            .words(page, &sizes)
+            .row(page, b" #\n", 1, head.last)
     }
 
-    // A buffer as `state` shows it.
-    pub fn lent(self, page: &mut [u8; 4096], name: &[u8], words: &[u32]) -> Self {
-        self.text(page, name).words(page, words).byte(page, b'\n')
+    // A buffer as `state` shows it: its name, and the words that are lent of it.
+    pub fn lent(self, page: &mut [u8; 4096], name: &[u8], words: &[u32], count: usize) -> Self {
+        let n = within(count, words);
+        self.text(page, name)
+            .words(page, &words[..n])
+            .byte(page, b'\n')
     }
+}
 
-    pub fn counts(self, page: &mut [u8; 4096], free: u32, live: u32, stale: u32) -> Self {
-        let s = self.text(page, b"ok")
-            .word(page, free as u64)
-            .word(page, live as u64);
-        s.word(page, stale as u64).byte(page, b'\n')
+// How many lines of a table are left behind a byte of it, the one that is looked for among them.
+fn rows_left(left: u64, byte: u8) -> u64 {
+    if byte != b'\n' {
+        return left;
+    }
+    if left == 0 {
+        return 0;
+    }
+    left - 1
+}
+
+// Where `fault` has what is said of a wrong line.
+fn row_of(wrong: Wrong) -> u64 {
+    match wrong {
+        Wrong::Spaces => 1,
+        Wrong::Unknown => 2,
+        Wrong::Missing => 3,
+        Wrong::Extra => 4,
+        Wrong::NoBuffer => 5,
+        Wrong::NoField => 6,
+        Wrong::NotANumber(place) => 7,
+        Wrong::TooLarge(place) => 8,
+        Wrong::Sizes => 9,
+        Wrong::Index => 10,
+    }
+}
+
+// The place of the word that is wrong, where it is said.
+fn place_of(wrong: Wrong) -> u64 {
+    match wrong {
+        Wrong::NotANumber(place) => place,
+        Wrong::TooLarge(place) => place,
+        _ => 0,
     }
 }
 

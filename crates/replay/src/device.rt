@@ -1,6 +1,7 @@
 // What is lent from line to line, and the request of each kind that changes it. No fact about what the layer answers is counted on.
 use lists::line;
 use lists::line::Wrong;
+use lists::print::Answer;
 use lists::within;
 use lists::word;
 use rules::Counted;
@@ -32,18 +33,6 @@ pub struct Device {
     pub blocks: usize,
     pub spare: usize,
     pub room: usize,
-}
-
-// What is printed for a request. The words of a list of pieces or of copied pages stand in the answer buffer.
-pub enum Answer {
-    Nothing,
-    Ok,
-    Refused(Refusal),
-    Pieces(u32),
-    Copied(u32, u32),
-    Counts(u32, u32, u32),
-    State,
-    Wrong(Wrong),
 }
 
 pub struct Step {

@@ -124,16 +124,8 @@ fn answer(list: i32, name: &[u8]) {
     }
 }
 
-fn main() {
-    let count = os::arg_count();
-    if count < 2 {
-        answer(STDIN_FILENO, b"standard input");
-        return;
-    }
-    if count > 2 {
-        io::write_all(STDERR_FILENO, b"replay: one file at most\n");
-        return;
-    }
+// Answers the list that the argument names.
+fn answer_named() {
     let mut path = io::buffer();
     let n = os::arg(1, &mut path);
     if os::errno() != 0 {
@@ -147,4 +139,17 @@ fn main() {
     }
     answer(list, &path[..n]);
     libc::close(list);
+}
+
+fn main() {
+    let count = os::arg_count();
+    if count < 2 {
+        answer(STDIN_FILENO, b"standard input");
+        return;
+    }
+    if count > 2 {
+        io::write_all(STDERR_FILENO, b"replay: one file at most\n");
+        return;
+    }
+    answer_named();
 }

@@ -1,7 +1,6 @@
 // One line after the other: what is asked is done to what is lent, and the answer printed.
 use crate::device;
 use crate::device::ANSWER_WORDS;
-use crate::device::Answer;
 use crate::device::BLOCK_WORDS;
 use crate::device::Device;
 use crate::device::EXTENT_WORDS;
@@ -9,6 +8,7 @@ use crate::device::SPARE_WORDS;
 use crate::device::Step;
 use lists::line::Asked;
 use lists::line::Line;
+use lists::print::Answer;
 use lists::print::Sink;
 use lists::within;
 use lists::word;
@@ -60,19 +60,60 @@ impl Session {
         page: &mut [u8; 4096],
     ) -> Self {
         let line = self.line;
-        let before = self.device;
+        let asked = line.asked();
+        let ended = self.ended();
+        match asked {
+            Asked::Nothing => ended,
+            Asked::State => ended.shown(ext, blk, spare, page),
+            _ => ended.answered(asked, ext, blk, spare, out, page),
+        }
+    }
+
+    fn ended(self) -> Self {
+        let device = self.device;
         let sink = self.sink;
-        let lines = next(self.lines);
-        let step = done(before, line.asked(), ext, blk, spare, out);
+        Self {
+            line: Line::new(),
+            lines: next(self.lines),
+            device: device,
+            sink: sink,
+        }
+    }
+
+    // Shows the head and the words that are lent.
+    fn shown(
+        mut self,
+        ext: &[u32; EXTENT_WORDS],
+        blk: &[u32; BLOCK_WORDS],
+        spare: &[u32; SPARE_WORDS],
+        page: &mut [u8; 4096],
+    ) -> Self {
+        let sink = self.sink;
+        let device = self.device;
+        let after = state(sink, page, device, ext, blk, spare);
+        self.sink = after;
+        self
+    }
+
+    // Does what is asked, and prints the answer.
+    fn answered(
+        mut self,
+        asked: Asked,
+        ext: &mut [u32; EXTENT_WORDS],
+        blk: &mut [u32; BLOCK_WORDS],
+        spare: &mut [u32; SPARE_WORDS],
+        out: &mut [u32; ANSWER_WORDS],
+        page: &mut [u8; 4096],
+    ) -> Self {
+        let before = self.device;
+        let step = done(before, asked, ext, blk, spare, out);
         let device = step.device;
         let answer = step.answer;
-        let after = shown(sink, page, lines, device, answer, ext, blk, spare, out);
-        Session {
-            line: Line::new(),
-            lines: lines,
-            device: device,
-            sink: after,
-        }
+        let sink = self.sink;
+        let after = sink.answer(page, self.lines, out, answer);
+        self.device = device;
+        self.sink = after;
+        self
     }
 }
 
@@ -97,22 +138,30 @@ fn done(
         }
         Asked::Room(words) => d.room(words),
         Asked::Head(field, value) => d.head(field, value),
-        Asked::State => d.says(Answer::State),
-        _ => {
-            let e = within(d.extents, ext);
-            let b = within(d.blocks, blk);
-            let s = within(d.spare, spare);
-            let r = within(d.room, out);
-            called(
-                d,
-                asked,
-                &mut ext[..e],
-                &mut blk[..b],
-                &mut spare[..s],
-                &mut out[..r],
-            )
-        }
+        _ => lent(d, asked, ext, blk, spare, out),
     }
+}
+
+fn lent(
+    d: Device,
+    asked: Asked,
+    ext: &mut [u32],
+    blk: &mut [u32],
+    spare: &mut [u32],
+    out: &mut [u32],
+) -> Step {
+    let e = within(d.extents, ext);
+    let b = within(d.blocks, blk);
+    let s = within(d.spare, spare);
+    let r = within(d.room, out);
+    called(
+        d,
+        asked,
+        &mut ext[..e],
+        &mut blk[..b],
+        &mut spare[..s],
+        &mut out[..r],
+    )
 }
 
 fn called(
@@ -131,48 +180,28 @@ fn called(
         Asked::Read(start, count) => device::read(d, ext, blk, spare, out, start, count),
         Asked::Reclaim => device::reclaim(d, ext, blk, spare, out),
         Asked::Report => device::report(d, ext, blk, spare),
-        Asked::Poke(buffer, index, value) => match buffer {
-            word::EXTENTS => device::poke(d, ext, index, value),
-            word::BLOCKS => device::poke(d, blk, index, value),
-            _ => device::poke(d, spare, index, value),
-        },
+        Asked::Poke(buffer, index, value) => poked(d, ext, blk, spare, buffer, index, value),
         _ => d.says(Answer::Nothing),
     }
 }
 
-// The answer to line `number`, printed.
-fn shown(
-    sink: Sink,
-    page: &mut [u8; 4096],
-    number: u64,
+fn poked(
     d: Device,
-    answer: Answer,
-    ext: &[u32],
-    blk: &[u32],
-    spare: &[u32],
-    out: &[u32],
-) -> Sink {
-    match answer {
-        Answer::Nothing => sink,
-        Answer::Ok => sink.text(page, b"ok\n"),
-        Answer::Refused(refusal) => sink.refused(page, refusal),
-        Answer::Pieces(count) => {
-            sink.list(page, out, count, 3 * count as usize)
-                .byte(page, b'\n')
-        }
-        Answer::Copied(count, block) => {
-            let listed = sink.list(page, out, count, count as usize);
-            listed
-                .text(page, b" erase")
-                .word(page, block as u64)
-                .byte(page, b'\n')
-        }
-        Answer::Counts(free, live, stale) => sink.counts(page, free, live, stale),
-        Answer::State => state(sink, page, d, ext, blk, spare),
-        Answer::Wrong(wrong) => sink.wrong(page, number, wrong),
+    ext: &mut [u32],
+    blk: &mut [u32],
+    spare: &mut [u32],
+    buffer: u64,
+    index: u32,
+    value: u32,
+) -> Step {
+    match buffer {
+        word::EXTENTS => device::poke(d, ext, index, value),
+        word::BLOCKS => device::poke(d, blk, index, value),
+        _ => device::poke(d, spare, index, value),
     }
 }
 
+// The head and the words that are lent, as `state` shows them.
 fn state(
     sink: Sink,
     page: &mut [u8; 4096],
@@ -181,12 +210,9 @@ fn state(
     blk: &[u32],
     spare: &[u32],
 ) -> Sink {
-    let e = within(d.extents, ext);
-    let b = within(d.blocks, blk);
-    let s = within(d.spare, spare);
     let head = d.head;
     sink.head(page, head)
-        .lent(page, b"extents", &ext[..e])
-        .lent(page, b"blocks", &blk[..b])
-        .lent(page, b"spare", &spare[..s])
+        .lent(page, b"extents", ext, d.extents)
+        .lent(page, b"blocks", blk, d.blocks)
+        .lent(page, b"spare", spare, d.spare)
 }
