@@ -122,8 +122,7 @@ impl Sink {
 
     pub fn refused(self, page: &mut [u8; 4096], refusal: Refusal) -> Self {
         let number = wide(number_of(refusal));
-        self.row(page, b"refused # ", 1, number)
-            .name(page, number)
+        self.row(page, b"refused # ", 1, number).name(page, number)
     }
 
     // The name of the refusal that has the number, and the end of the line.

@@ -10,10 +10,23 @@ use rules::Done;
 use rules::Head;
 use rules::Listed;
 
+struct Write {
+    number: u64,
+    start: u32,
+    count: u32,
+}
+
 // What came of a write.
 struct Sent {
     head: Head,
     is_accepted: bool,
+}
+
+// What came of a write that was sent twice.
+struct Twice {
+    head: Head,
+    is_accepted: bool,
+    is_accepted_again: bool,
 }
 
 fn fresh(ext: &mut [u32; 24], blk: &mut [u32; BLOCK_WORDS], spare: &mut [u32; 16]) -> Head {
@@ -34,12 +47,19 @@ fn send(
     spare: &mut [u32; 16],
     flash: &mut [u32; 16],
     book: &[u32; 8],
-    number: u64,
-    start: u32,
-    count: u32,
+    write: Write,
 ) -> Sent {
     let mut out = [0u32; 12];
-    match layer::write(head, ext, blk, spare, number, start, count, &mut out) {
+    match layer::write(
+        head,
+        ext,
+        blk,
+        spare,
+        write.number,
+        write.start,
+        write.count,
+        &mut out,
+    ) {
         Listed::Accepted(pieces, after) => {
             say::text(b"     accepted\n");
             flash::program(flash, book, &out, pieces);
@@ -66,11 +86,9 @@ fn first(
     spare: &mut [u32; 16],
     flash: &mut [u32; 16],
     book: &[u32; 8],
-    number: u64,
-    start: u32,
-    count: u32,
+    write: Write,
 ) -> Sent {
-    let sent = send(head, ext, blk, spare, flash, book, number, start, count);
+    let sent = send(head, ext, blk, spare, flash, book, write);
     let after = sent.head;
     Accounts::now(after, ext, blk, spare).say(b"     ");
     sent
@@ -84,13 +102,11 @@ fn again(
     spare: &mut [u32; 16],
     flash: &mut [u32; 16],
     book: &[u32; 8],
-    number: u64,
-    start: u32,
-    count: u32,
+    write: Write,
 ) -> Sent {
     let before = Accounts::now(head, ext, blk, spare);
     before.say(b"     before   ");
-    let sent = send(head, ext, blk, spare, flash, book, number, start, count);
+    let sent = send(head, ext, blk, spare, flash, book, write);
     let then = sent.head;
     let after = Accounts::now(then, ext, blk, spare);
     after.say(b"     after    ");
@@ -102,11 +118,34 @@ fn again(
     sent
 }
 
+// Sends a write, and sends it again after a crash. Each time is told first.
+fn send_twice(
+    head: Head,
+    ext: &mut [u32; 24],
+    blk: &mut [u32; BLOCK_WORDS],
+    spare: &mut [u32; 16],
+    flash: &mut [u32; 16],
+    book: &[u32; 8],
+    write: Write,
+    told: &[u8],
+    told_again: &[u8],
+) -> Twice {
+    say::text(told);
+    let one = first(head, ext, blk, spare, flash, book, write);
+    let then = one.head;
+    say::text(told_again);
+    let two = again(then, ext, blk, spare, flash, book, write);
+    let after = two.head;
+    Twice {
+        head: after,
+        is_accepted: one.is_accepted,
+        is_accepted_again: two.is_accepted,
+    }
+}
+
 // A line that the accounts showed when the write was applied twice: 4417 for the first time, 4418 for the second.
 fn refund(line: u64, is_accepted: bool) {
-    say::text(b"     line ");
-    say::number(line);
-    say::text(b"   09:14:07   refund   18.20   ");
+    say::one(b"     line #   09:14:07   refund   18.20   ", line);
     if is_accepted {
         say::text(b"booked\n");
     } else {
@@ -151,9 +190,7 @@ fn read_back(
     match layer::read(head, ext, blk, spare, 0, 4, &mut out) {
         Listed::Accepted(pieces, _) => {
             let right = flash::compare(flash, book, &out, pieces);
-            say::text(b"     ");
-            say::number(right);
-            say::text(b" of 4 lines are as written\n");
+            say::one(b"     # of 4 lines are as written\n", right);
         }
         Listed::Refused(refusal, _) => say::refused(refusal),
     }
@@ -186,21 +223,42 @@ fn backup(
     flash: &mut [u32; 16],
     book: &mut [u32; 8],
 ) -> Head {
-    say::text(b"\n1. Lines 4414 to 4417 are backed up: write number 1.\n");
-    let one = first(head, ext, blk, spare, flash, book, 1, 0, 4);
-    say::text(b"\n2. The host crashes. It has heard no answer, and sends write number 1 again.\n");
-    let twice = again(one.head, ext, blk, spare, flash, book, 1, 0, 4);
+    let one = send_twice(
+        head,
+        ext,
+        blk,
+        spare,
+        flash,
+        book,
+        Write {
+            number: 1,
+            start: 0,
+            count: 4,
+        },
+        b"\n1. Lines 4414 to 4417 are backed up: write number 1.\n",
+        b"\n2. The host crashes. It has heard no answer, and sends write number 1 again.\n",
+    );
     refund(4417, one.is_accepted);
-    refund(4418, twice.is_accepted);
+    refund(4418, one.is_accepted_again);
     book[1] = 1290;
     book[2] = 6150;
-    say::text(b"\n3. Lines 4415 and 4416 are corrected: write number 2.\n");
-    let two = first(twice.head, ext, blk, spare, flash, book, 2, 1, 2);
-    say::text(
+    let saved = one.head;
+    let two = send_twice(
+        saved,
+        ext,
+        blk,
+        spare,
+        flash,
+        book,
+        Write {
+            number: 2,
+            start: 1,
+            count: 2,
+        },
+        b"\n3. Lines 4415 and 4416 are corrected: write number 2.\n",
         b"\n4. The host crashes, and sends write number 2 again. Struck off twice, block 0 would look empty.\n",
     );
-    let still = again(two.head, ext, blk, spare, flash, book, 2, 1, 2);
-    still.head
+    two.head
 }
 
 // Number 3: the same lines with a number never used.
@@ -212,11 +270,22 @@ fn anew(
     flash: &mut [u32; 16],
     book: &[u32; 8],
 ) -> Head {
-    say::text(b"\n7. The same lines are sent with a number never used: write number 3.\n");
-    let three = first(head, ext, blk, spare, flash, book, 3, 0, 4);
-    say::text(b"\n8. Write number 3 is sent again.\n");
-    let still = again(three.head, ext, blk, spare, flash, book, 3, 0, 4);
-    still.head
+    let three = send_twice(
+        head,
+        ext,
+        blk,
+        spare,
+        flash,
+        book,
+        Write {
+            number: 3,
+            start: 0,
+            count: 4,
+        },
+        b"\n7. The same lines are sent with a number never used: write number 3.\n",
+        b"\n8. Write number 3 is sent again.\n",
+    );
+    three.head
 }
 
 fn main() {
