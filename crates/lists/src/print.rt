@@ -1,5 +1,4 @@
 // Answers on their way to standard output, a page of bytes at a time.
-use crate::line::Wrong;
 use crate::within;
 use libc::STDOUT_FILENO;
 use rules::Head;
@@ -14,7 +13,7 @@ pub enum Answer {
     Pieces(u32),
     Copied(u32, u32),
     Counts(u32, u32, u32),
-    Wrong(Wrong),
+    Wrong(u64, u64),
 }
 
 // How many bytes of the page wait, and whether all before them were written.
@@ -136,25 +135,26 @@ impl Sink {
     }
 
     // The line that says what is wrong with line `number`.
-    pub fn wrong(self, page: &mut [u8; 4096], number: u64, wrong: Wrong) -> Self {
+    fn wrong(self, page: &mut [u8; 4096], number: u64, wrong: u64, place: u64) -> Self {
         self.row(page, b"line #: ", 1, number)
-            .fault(page, row_of(wrong), place_of(wrong))
+            .fault(page, wrong, place)
     }
 
-    fn fault(self, page: &mut [u8; 4096], row: u64, place: u64) -> Self {
+    // What is wrong, in the order of the numbers that it has in `line`.
+    fn fault(self, page: &mut [u8; 4096], wrong: u64, place: u64) -> Self {
         self.row(
             page,
             b"words not separated by single spaces\n\
             unknown request\n\
             missing word\n\
             extra word\n\
-            word 2 is not extents, blocks or spare\n\
-            word 2 is not a field of the head\n\
+            word # is not extents, blocks or spare\n\
+            word # is not a field of the head\n\
             word # is not a number\n\
             word # is too large\n\
             sizes beyond what this program holds\n\
             index outside\n",
-            row,
+            wrong,
             place,
         )
     }
@@ -168,7 +168,7 @@ impl Sink {
             Answer::Pieces(count) => self.pieces(page, out, count),
             Answer::Copied(count, block) => self.copied(page, out, count, block),
             Answer::Counts(free, live, stale) => self.counts(page, free, live, stale),
-            Answer::Wrong(wrong) => self.wrong(page, number, wrong),
+            Answer::Wrong(wrong, place) => self.wrong(page, number, wrong, place),
         }
     }
 
@@ -226,31 +226,6 @@ fn rows_left(left: u64, byte: u8) -> u64 {
         return 0;
     }
     left - 1
-}
-
-// Where `fault` has what is said of a wrong line.
-fn row_of(wrong: Wrong) -> u64 {
-    match wrong {
-        Wrong::Spaces => 1,
-        Wrong::Unknown => 2,
-        Wrong::Missing => 3,
-        Wrong::Extra => 4,
-        Wrong::NoBuffer => 5,
-        Wrong::NoField => 6,
-        Wrong::NotANumber(place) => 7,
-        Wrong::TooLarge(place) => 8,
-        Wrong::Sizes => 9,
-        Wrong::Index => 10,
-    }
-}
-
-// The place of the word that is wrong, where it is said.
-fn place_of(wrong: Wrong) -> u64 {
-    match wrong {
-        Wrong::NotANumber(place) => place,
-        Wrong::TooLarge(place) => place,
-        _ => 0,
-    }
 }
 
 fn wide(n: u32) -> u64 {

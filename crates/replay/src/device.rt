@@ -1,6 +1,5 @@
 // What is lent from line to line, and the request of each kind that changes it. No fact about what the layer answers is counted on.
 use lists::line;
-use lists::line::Wrong;
 use lists::print::Answer;
 use lists::within;
 use lists::word;
@@ -222,10 +221,10 @@ pub fn fresh(
 ) -> Step {
     let all = product(blocks, pages);
     if all > MOST_PAGES as u64 {
-        return d.says(Answer::Wrong(Wrong::Sizes));
+        return d.says(Answer::Wrong(line::SIZES, 0));
     }
     if slots > MOST_SLOTS as u32 {
-        return d.says(Answer::Wrong(Wrong::Sizes));
+        return d.says(Answer::Wrong(line::SIZES, 0));
     }
     let e = within(3 * slots as usize, ext);
     let b = within(words::STRIDE * blocks as usize, blk);
@@ -248,7 +247,7 @@ pub fn fresh(
 pub fn poke(d: Device, words: &mut [u32], index: u32, value: u32) -> Step {
     let i = index as usize;
     if i >= words.len() {
-        return d.says(Answer::Wrong(Wrong::Index));
+        return d.says(Answer::Wrong(line::INDEX, 0));
     }
     words[i] = value;
     d.says(Answer::Ok)

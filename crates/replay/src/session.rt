@@ -131,11 +131,10 @@ fn done(
     out: &mut [u32],
 ) -> Step {
     match asked {
-        Asked::Nothing => d.says(Answer::Nothing),
-        Asked::Wrong(wrong) => d.says(Answer::Wrong(wrong)),
         Asked::Fresh(blocks, pages, logical, slots) => {
             device::fresh(d, ext, blk, spare, blocks, pages, logical, slots)
         }
+        Asked::Wrong(wrong, place) => d.says(Answer::Wrong(wrong, place)),
         Asked::Room(words) => d.room(words),
         Asked::Head(field, value) => d.head(field, value),
         _ => lent(d, asked, ext, blk, spare, out),
