@@ -109,14 +109,14 @@ impl Device {
         }
     }
 
-    fn done(self, done: Done) -> Step {
+    pub fn done(self, done: Done) -> Step {
         match done {
             Done::Accepted(head) => self.headed(head).says(Answer::Ok),
             Done::Refused(refusal, head) => self.headed(head).says(Answer::Refused(refusal)),
         }
     }
 
-    fn pieces(self, listed: Listed) -> Step {
+    pub fn pieces(self, listed: Listed) -> Step {
         match listed {
             Listed::Accepted(pieces, head) => self.headed(head).says(Answer::Pieces(pieces)),
             Listed::Refused(refusal, head) => self.headed(head).says(Answer::Refused(refusal)),
@@ -124,7 +124,7 @@ impl Device {
     }
 
     // The new head names the block to erase.
-    fn copied(self, listed: Listed) -> Step {
+    pub fn copied(self, listed: Listed) -> Step {
         match listed {
             Listed::Accepted(pages, head) => {
                 let erase = head.reserve;
@@ -134,7 +134,7 @@ impl Device {
         }
     }
 
-    fn counted(self, counted: Counted) -> Step {
+    pub fn counted(self, counted: Counted) -> Step {
         match counted {
             Counted::Accepted(free, live, stale, head) => {
                 self.headed(head).says(Answer::Counts(free, live, stale))
@@ -142,69 +142,6 @@ impl Device {
             Counted::Refused(refusal, head) => self.headed(head).says(Answer::Refused(refusal)),
         }
     }
-}
-
-// ---- the calls
-
-pub fn write(
-    d: Device,
-    ext: &mut [u32],
-    blk: &mut [u32],
-    spare: &mut [u32],
-    out: &mut [u32],
-    number: u64,
-    start: u32,
-    count: u32,
-) -> Step {
-    let head = d.head;
-    let listed = layer::write(head, ext, blk, spare, number, start, count, out);
-    d.pieces(listed)
-}
-
-pub fn trim(
-    d: Device,
-    ext: &mut [u32],
-    blk: &mut [u32],
-    spare: &[u32],
-    number: u64,
-    start: u32,
-    count: u32,
-) -> Step {
-    let head = d.head;
-    let done = layer::trim(head, ext, blk, spare, number, start, count);
-    d.done(done)
-}
-
-pub fn read(
-    d: Device,
-    ext: &[u32],
-    blk: &[u32],
-    spare: &[u32],
-    out: &mut [u32],
-    start: u32,
-    count: u32,
-) -> Step {
-    let head = d.head;
-    let listed = layer::read(head, ext, blk, spare, start, count, out);
-    d.pieces(listed)
-}
-
-pub fn reclaim(
-    d: Device,
-    ext: &mut [u32],
-    blk: &mut [u32],
-    spare: &mut [u32],
-    out: &mut [u32],
-) -> Step {
-    let head = d.head;
-    let listed = layer::reclaim(head, ext, blk, spare, out);
-    d.copied(listed)
-}
-
-pub fn report(d: Device, ext: &[u32], blk: &[u32], spare: &[u32]) -> Step {
-    let head = d.head;
-    let counted = layer::report(head, ext, blk, spare);
-    d.counted(counted)
 }
 
 // Sizes that are not held are no request, but for B: more blocks than are held are refused whatever the lengths, and no more are lent. A
@@ -240,8 +177,6 @@ pub fn fresh(
     );
     d.begun(done, e, b, s)
 }
-
-// ---- changes to what is lent
 
 // Sets the word at index.
 pub fn poke(d: Device, words: &mut [u32], index: u32, value: u32) -> Step {

@@ -121,7 +121,7 @@ fn next(lines: u64) -> u64 {
     if lines < u64::MAX { lines + 1 } else { lines }
 }
 
-// What is asked, done. All but fresh are lent the words that the last accepted fresh decided on.
+// What is asked, done.
 fn done(
     d: Device,
     asked: Asked,
@@ -137,32 +137,24 @@ fn done(
         Asked::Wrong(wrong, place) => d.says(Answer::Wrong(wrong, place)),
         Asked::Room(words) => d.room(words),
         Asked::Head(field, value) => d.head(field, value),
-        _ => lent(d, asked, ext, blk, spare, out),
+        _ => {
+            let e = within(d.extents, ext);
+            let b = within(d.blocks, blk);
+            let s = within(d.spare, spare);
+            let r = within(d.room, out);
+            called(
+                d,
+                asked,
+                &mut ext[..e],
+                &mut blk[..b],
+                &mut spare[..s],
+                &mut out[..r],
+            )
+        }
     }
 }
 
-fn lent(
-    d: Device,
-    asked: Asked,
-    ext: &mut [u32],
-    blk: &mut [u32],
-    spare: &mut [u32],
-    out: &mut [u32],
-) -> Step {
-    let e = within(d.extents, ext);
-    let b = within(d.blocks, blk);
-    let s = within(d.spare, spare);
-    let r = within(d.room, out);
-    called(
-        d,
-        asked,
-        &mut ext[..e],
-        &mut blk[..b],
-        &mut spare[..s],
-        &mut out[..r],
-    )
-}
-
+// A call. It is lent the words that the last accepted fresh decided on.
 fn called(
     d: Device,
     asked: Asked,
@@ -171,14 +163,28 @@ fn called(
     spare: &mut [u32],
     out: &mut [u32],
 ) -> Step {
+    let head = d.head;
     match asked {
         Asked::Write(number, start, count) => {
-            device::write(d, ext, blk, spare, out, number, start, count)
+            let listed = layer::write(head, ext, blk, spare, number, start, count, out);
+            d.pieces(listed)
         }
-        Asked::Trim(number, start, count) => device::trim(d, ext, blk, spare, number, start, count),
-        Asked::Read(start, count) => device::read(d, ext, blk, spare, out, start, count),
-        Asked::Reclaim => device::reclaim(d, ext, blk, spare, out),
-        Asked::Report => device::report(d, ext, blk, spare),
+        Asked::Trim(number, start, count) => {
+            let done = layer::trim(head, ext, blk, spare, number, start, count);
+            d.done(done)
+        }
+        Asked::Read(start, count) => {
+            let listed = layer::read(head, ext, blk, spare, start, count, out);
+            d.pieces(listed)
+        }
+        Asked::Reclaim => {
+            let listed = layer::reclaim(head, ext, blk, spare, out);
+            d.copied(listed)
+        }
+        Asked::Report => {
+            let counted = layer::report(head, ext, blk, spare);
+            d.counted(counted)
+        }
         Asked::Poke(buffer, index, value) => poked(d, ext, blk, spare, buffer, index, value),
         _ => d.says(Answer::Nothing),
     }
