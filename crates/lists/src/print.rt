@@ -134,15 +134,9 @@ impl Sink {
         )
     }
 
-    // The line that says what is wrong with line `number`.
+    // The line that says what is wrong with line `number`, in the order of the numbers that this has in `line`.
     fn wrong(self, page: &mut [u8; 4096], number: u64, wrong: u64, place: u64) -> Self {
-        self.row(page, b"line #: ", 1, number)
-            .fault(page, wrong, place)
-    }
-
-    // What is wrong, in the order of the numbers that it has in `line`.
-    fn fault(self, page: &mut [u8; 4096], wrong: u64, place: u64) -> Self {
-        self.row(
+        self.row(page, b"line #: ", 1, number).row(
             page,
             b"words not separated by single spaces\n\
             unknown request\n\
@@ -165,28 +159,29 @@ impl Sink {
             Answer::Nothing => self,
             Answer::Ok => self.text(page, b"ok\n"),
             Answer::Refused(refusal) => self.refused(page, refusal),
-            Answer::Pieces(count) => self.pieces(page, out, count),
-            Answer::Copied(count, block) => self.copied(page, out, count, block),
+            Answer::Pieces(count) => self.list(page, out, count, 3 * count as usize, b"\n", 0),
+            Answer::Copied(count, block) => {
+                self.list(page, out, count, count as usize, b" erase #\n", block)
+            }
             Answer::Counts(free, live, stale) => self.counts(page, free, live, stale),
             Answer::Wrong(wrong, place) => self.wrong(page, number, wrong, place),
         }
     }
 
-    fn pieces(self, page: &mut [u8; 4096], out: &[u32], count: u32) -> Self {
-        self.list(page, out, count, 3 * count as usize)
-            .byte(page, b'\n')
-    }
-
-    fn copied(self, page: &mut [u8; 4096], out: &[u32], count: u32, block: u32) -> Self {
-        self.list(page, out, count, count as usize)
-            .row(page, b" erase #\n", 1, wide(block))
-    }
-
-    // A list of the answer buffer: its count, and then its words, of which there are none but in the buffer.
-    fn list(self, page: &mut [u8; 4096], out: &[u32], count: u32, words: usize) -> Self {
+    // A list of the answer buffer: its count, its words, of which there are none but in the buffer, and what ends the line.
+    fn list(
+        self,
+        page: &mut [u8; 4096],
+        out: &[u32],
+        count: u32,
+        words: usize,
+        end: &[u8],
+        block: u32,
+    ) -> Self {
         let n = within(words, out);
         self.row(page, b"ok #", 1, wide(count))
             .words(page, &out[..n])
+            .row(page, end, 1, wide(block))
     }
 
     fn counts(self, page: &mut [u8; 4096], free: u32, live: u32, stale: u32) -> Self {

@@ -4,6 +4,7 @@ use crate::say;
 
 pub struct Accounts {
     pub valid: [u32; 4],
+    // Free, live and stale, and a 0.
     pub pages: [u32; 4],
 }
 

@@ -128,35 +128,31 @@ fn answered(
     spare: [u32; 16],
     out: [u32; 12],
 ) -> Answer {
-    let head = head_of(listed);
-    let device = Device {
-        head: head,
-        ext: ext,
-        blk: blk,
-        spare: spare,
-    };
     match listed {
-        Listed::Accepted(count, _) => Answer {
-            device: device,
+        Listed::Accepted(count, head) => Answer {
+            device: Device {
+                head: head,
+                ext: ext,
+                blk: blk,
+                spare: spare,
+            },
             is_accepted: true,
             count: count,
             out: out,
         },
-        Listed::Refused(refusal, _) => {
+        Listed::Refused(refusal, head) => {
             say::refused(refusal);
             Answer {
-                device: device,
+                device: Device {
+                    head: head,
+                    ext: ext,
+                    blk: blk,
+                    spare: spare,
+                },
                 is_accepted: false,
                 count: 0,
                 out: out,
             }
         }
-    }
-}
-
-fn head_of(listed: Listed) -> Head {
-    match listed {
-        Listed::Accepted(_, head) => head,
-        Listed::Refused(_, head) => head,
     }
 }

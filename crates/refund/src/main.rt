@@ -125,21 +125,19 @@ fn read_back(d: Device, flash: &[u32; 16], book: &[u32; 8]) {
 }
 
 fn title() {
-    say::text(b"The double refund\n\n");
     say::text(
-        b"A flash device has 4 blocks of 4 pages, the last block in reserve. A page holds a line of an account book.\n",
-    );
-    say::text(b"Each write has a number, and a number is taken once.\n");
-    say::text(
-        b"Valid: the pages in use, block by block. Free, live and stale: the pages of the device but the reserve.\n",
+        b"The double refund\n\n\
+        A flash device has 4 blocks of 4 pages, the last block in reserve. A page holds a line of an account book.\n\
+        Each write has a number, and a number is taken once.\n\
+        Valid: the pages in use, block by block. Free, live and stale: the pages of the device but the reserve.\n",
     );
 }
 
 fn theorem() {
     say::text(
-        b"\nThis is one history. The same is proved of every history, from any sound state and with anything in between:\n",
+        b"\nThis is one history. The same is proved of every history, from any sound state and with anything in between:\n\
+        theorem applied-once, which crates/demands/specs/Once.antt states.\n",
     );
-    say::text(b"theorem applied-once, which crates/demands/specs/Once.antt states.\n");
 }
 
 // Numbers 1 and 2: the backup and its correction, each sent twice.

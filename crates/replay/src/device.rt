@@ -66,9 +66,10 @@ impl Device {
         }
     }
 
-    fn headed(mut self, head: Head) -> Self {
+    // What a call answers, and the head that it leaves.
+    fn told(mut self, head: Head, answer: Answer) -> Step {
         self.head = head;
-        self
+        self.says(answer)
     }
 
     pub fn room(mut self, words: u32) -> Step {
@@ -93,7 +94,7 @@ impl Device {
             word::RESERVE => head.reserve = word,
             _ => head.last = value,
         }
-        self.headed(head).says(Answer::Ok)
+        self.told(head, Answer::Ok)
     }
 
     // An accepted fresh decides how many words are lent from then on.
@@ -103,7 +104,7 @@ impl Device {
                 self.extents = extents;
                 self.blocks = blocks;
                 self.spare = spare;
-                self.headed(head).says(Answer::Ok)
+                self.told(head, Answer::Ok)
             }
             Done::Refused(refusal, head) => self.says(Answer::Refused(refusal)),
         }
@@ -111,15 +112,15 @@ impl Device {
 
     pub fn done(self, done: Done) -> Step {
         match done {
-            Done::Accepted(head) => self.headed(head).says(Answer::Ok),
-            Done::Refused(refusal, head) => self.headed(head).says(Answer::Refused(refusal)),
+            Done::Accepted(head) => self.told(head, Answer::Ok),
+            Done::Refused(refusal, head) => self.told(head, Answer::Refused(refusal)),
         }
     }
 
     pub fn pieces(self, listed: Listed) -> Step {
         match listed {
-            Listed::Accepted(pieces, head) => self.headed(head).says(Answer::Pieces(pieces)),
-            Listed::Refused(refusal, head) => self.headed(head).says(Answer::Refused(refusal)),
+            Listed::Accepted(pieces, head) => self.told(head, Answer::Pieces(pieces)),
+            Listed::Refused(refusal, head) => self.told(head, Answer::Refused(refusal)),
         }
     }
 
@@ -128,18 +129,18 @@ impl Device {
         match listed {
             Listed::Accepted(pages, head) => {
                 let erase = head.reserve;
-                self.headed(head).says(Answer::Copied(pages, erase))
+                self.told(head, Answer::Copied(pages, erase))
             }
-            Listed::Refused(refusal, head) => self.headed(head).says(Answer::Refused(refusal)),
+            Listed::Refused(refusal, head) => self.told(head, Answer::Refused(refusal)),
         }
     }
 
     pub fn counted(self, counted: Counted) -> Step {
         match counted {
             Counted::Accepted(free, live, stale, head) => {
-                self.headed(head).says(Answer::Counts(free, live, stale))
+                self.told(head, Answer::Counts(free, live, stale))
             }
-            Counted::Refused(refusal, head) => self.headed(head).says(Answer::Refused(refusal)),
+            Counted::Refused(refusal, head) => self.told(head, Answer::Refused(refusal)),
         }
     }
 }

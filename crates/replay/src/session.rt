@@ -88,9 +88,13 @@ impl Session {
         spare: &[u32; SPARE_WORDS],
         page: &mut [u8; 4096],
     ) -> Self {
+        let d = self.device;
+        let head = d.head;
         let sink = self.sink;
-        let device = self.device;
-        let after = state(sink, page, device, ext, blk, spare);
+        let after = sink.head(page, head)
+            .lent(page, b"extents", ext, d.extents)
+            .lent(page, b"blocks", blk, d.blocks)
+            .lent(page, b"spare", spare, d.spare);
         self.sink = after;
         self
     }
@@ -204,20 +208,4 @@ fn poked(
         word::BLOCKS => device::poke(d, blk, index, value),
         _ => device::poke(d, spare, index, value),
     }
-}
-
-// The head and the words that are lent, as `state` shows them.
-fn state(
-    sink: Sink,
-    page: &mut [u8; 4096],
-    d: Device,
-    ext: &[u32],
-    blk: &[u32],
-    spare: &[u32],
-) -> Sink {
-    let head = d.head;
-    sink.head(page, head)
-        .lent(page, b"extents", ext, d.extents)
-        .lent(page, b"blocks", blk, d.blocks)
-        .lent(page, b"spare", spare, d.spare)
 }
