@@ -1,78 +1,45 @@
 // The accounts of the device: the valid count of each block, and what the layer reports.
+use crate::device::Device;
 use crate::say;
-use rules::Counted;
-use rules::Head;
 
 pub struct Accounts {
     pub valid: [u32; 4],
-    pub free: u32,
-    pub live: u32,
-    pub stale: u32,
+    // Free, live and stale, and a 0.
+    pub pages: [u32; 4],
 }
 
 impl Accounts {
-    pub fn now(head: Head, ext: &[u32; 24], blk: &[u32; 8], spare: &[u32; 16]) -> Self {
-        let valid = [blk[1], blk[3], blk[5], blk[7]];
-        match layer::report(head, ext, blk, spare) {
-            Counted::Accepted(free, live, stale, _) => Self {
-                valid: valid,
-                free: free,
-                live: live,
-                stale: stale,
-            },
-            Counted::Refused(refusal, _) => {
-                say::refused(refusal);
-                Self {
-                    valid: valid,
-                    free: 0,
-                    live: 0,
-                    stale: 0,
-                }
-            }
+    pub fn now(d: Device) -> Self {
+        let valid = d.valid();
+        let pages = d.report();
+        Self {
+            valid: valid,
+            pages: pages,
         }
     }
 
     pub fn say(self, when: &[u8]) {
         let valid = self.valid;
+        let pages = self.pages;
         say::text(when);
-        say::text(b"valid ");
-        say::word(valid[0]);
-        say::text(b" ");
-        say::word(valid[1]);
-        say::text(b" ");
-        say::word(valid[2]);
-        say::text(b" ");
-        say::word(valid[3]);
-        say::text(b"   free ");
-        say::word(self.free);
-        say::text(b"   live ");
-        say::word(self.live);
-        say::text(b"   stale ");
-        say::word(self.stale);
-        say::text(b"\n");
+        say::filled(b"valid # # # #", valid);
+        say::filled(b"   free #   live #   stale #\n", pages);
     }
 
     pub fn is(self, other: Self) -> bool {
         let a = self.valid;
         let b = other.valid;
-        if a[0] != b[0] {
+        if !same(a, b) {
             return false;
         }
-        if a[1] != b[1] {
-            return false;
-        }
-        if a[2] != b[2] {
-            return false;
-        }
-        if a[3] != b[3] {
-            return false;
-        }
-        if self.free != other.free {
-            return false;
-        }
-        if self.live != other.live {
-            return false;
-        }
-        self.stale == other.stale
+        let c = self.pages;
+        let d = other.pages;
+        same(c, d)
     }
+}
+
+fn same(a: [u32; 4], b: [u32; 4]) -> bool {
+    let first = (a[0] ^ b[0]) | (a[1] ^ b[1]);
+    let last = (a[2] ^ b[2]) | (a[3] ^ b[3]);
+    (first | last) == 0
 }

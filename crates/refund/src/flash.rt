@@ -35,15 +35,23 @@ fn program_page(flash: &mut [u32; 16], book: &[u32; 8], logical: usize, physical
     if physical >= 16 {
         return;
     }
-    if flash[physical] != ERASED {
+    let cents = book[logical];
+    put(flash, physical, cents);
+    say::filled(
+        b"     page #: line #   $\n",
+        [physical as u32, FIRST_LINE + logical as u32, cents, 0],
+    );
+}
+
+// Programs a page, which must be erased.
+fn put(flash: &mut [u32; 16], page: usize, cents: u32) {
+    if page >= 16 {
+        return;
+    }
+    if flash[page] != ERASED {
         say::text(b"     a page is programmed twice: ");
     }
-    flash[physical] = book[logical];
-    say::text(b"     page ");
-    say::number(physical as u64);
-    say::text(b": ");
-    say::line(FIRST_LINE + logical as u32, book[logical]);
-    say::text(b"\n");
+    flash[page] = cents;
 }
 
 // The source pages of a reclaim's answer, copied into a block from its first page on.
@@ -65,29 +73,28 @@ fn copy_page(flash: &mut [u32; 16], from: u32, to: usize) {
     if to >= 16 {
         return;
     }
-    if flash[to] != ERASED {
-        say::text(b"     a page is programmed twice: ");
-    }
     let cents = flash[from as usize];
-    flash[to] = cents;
-    say::text(b"     page ");
-    say::word(from);
-    say::text(b" is copied to page ");
-    say::number(to as u64);
-    say::text(b": ");
-    say::money(cents);
-    say::text(b"\n");
+    put(flash, to, cents);
+    say::filled(
+        b"     page # is copied to page #: $\n",
+        [from, to as u32, cents, 0],
+    );
 }
 
 pub fn erase(flash: &mut [u32; 16], block: u32) {
+    erase_pages(flash, block);
+    say::one(
+        b"     block # is erased and becomes the reserve\n",
+        block as u64,
+    );
+}
+
+fn erase_pages(flash: &mut [u32; 16], block: u32) {
     let mut o: u32 = 0;
     while o < 4 {
         erase_page(flash, page_of(block, o));
         o += 1;
     }
-    say::text(b"     block ");
-    say::word(block);
-    say::text(b" is erased and becomes the reserve\n");
 }
 
 fn erase_page(flash: &mut [u32; 16], page: usize) {
@@ -134,15 +141,22 @@ fn compare_page(flash: &[u32; 16], book: &[u32; 8], logical: usize, physical: us
         say::text(b"     a hole\n");
         return 0;
     }
-    say::text(b"     ");
-    say::line(FIRST_LINE + logical as u32, flash[physical]);
-    say::text(b"   from page ");
-    say::number(physical as u64);
-    if flash[physical] != book[logical] {
-        say::text(b", NOT as written\n");
+    let cents = flash[physical];
+    say::filled(
+        b"     line #   $   from page #, ",
+        [FIRST_LINE + logical as u32, cents, physical as u32, 0],
+    );
+    judged(cents, book[logical])
+}
+
+fn judged(found: u32, written: u32) -> u32
+    ensures { λ r. ⌜ r ≤ 1 ⌝ }
+{
+    if found != written {
+        say::text(b"NOT as written\n");
         return 0;
     }
-    say::text(b", as written\n");
+    say::text(b"as written\n");
     1
 }
 

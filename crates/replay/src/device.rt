@@ -1,8 +1,8 @@
 // What is lent from line to line, and the request of each kind that changes it. No fact about what the layer answers is counted on.
-ghost use Rattle.io.specs.Counts.{Counts};
-use crate::line;
-use crate::line::Wrong;
-use crate::word;
+use lists::line;
+use lists::print::Answer;
+use lists::within;
+use lists::word;
 use rules::Counted;
 use rules::Done;
 use rules::Head;
@@ -21,7 +21,7 @@ const MOST_SLOTS: usize = 8192;
 // The words that these ask for. No answer is longer than a read of all slots with a hole before each and after the last.
 pub const EXTENT_WORDS: usize = 3 * MOST_SLOTS;
 
-pub const BLOCK_WORDS: usize = 2 * MOST_BLOCKS;
+pub const BLOCK_WORDS: usize = words::STRIDE * MOST_BLOCKS;
 
 pub const SPARE_WORDS: usize = MOST_PAGES;
 
@@ -34,18 +34,6 @@ pub struct Device {
     pub blocks: usize,
     pub spare: usize,
     pub room: usize,
-}
-
-// What is printed for a request. The words of a list of pieces or of copied pages stand in the answer buffer.
-pub enum Answer {
-    Nothing,
-    Ok,
-    Refused(Refusal),
-    Pieces(u32),
-    Copied(u32, u32),
-    Counts(u32, u32, u32),
-    State,
-    Wrong(Wrong),
 }
 
 pub struct Step {
@@ -72,9 +60,10 @@ impl Device {
         }
     }
 
-    fn headed(mut self, head: Head) -> Self {
+    // What a call answers, and the head that it leaves.
+    fn told(mut self, head: Head, answer: Answer) -> Step {
         self.head = head;
-        self
+        self.says(answer)
     }
 
     pub fn room(mut self, words: u32) -> Step {
@@ -99,7 +88,7 @@ impl Device {
             word::RESERVE => head.reserve = word,
             _ => head.last = kept(value),
         }
-        self.headed(head).says(Answer::Ok)
+        self.told(head, Answer::Ok)
     }
 
     // An accepted fresh decides how many words are lent from then on.
@@ -109,108 +98,45 @@ impl Device {
                 self.extents = extents;
                 self.blocks = blocks;
                 self.spare = spare;
-                self.headed(head).says(Answer::Ok)
+                self.told(head, Answer::Ok)
             }
             Done::Refused(refusal, head) => self.says(Answer::Refused(refusal)),
         }
     }
 
-    fn done(self, done: Done) -> Step {
+    pub fn done(self, done: Done) -> Step {
         match done {
-            Done::Accepted(head) => self.headed(head).says(Answer::Ok),
-            Done::Refused(refusal, head) => self.headed(head).says(Answer::Refused(refusal)),
+            Done::Accepted(head) => self.told(head, Answer::Ok),
+            Done::Refused(refusal, head) => self.told(head, Answer::Refused(refusal)),
         }
     }
 
-    fn pieces(self, listed: Listed) -> Step {
+    pub fn pieces(self, listed: Listed) -> Step {
         match listed {
-            Listed::Accepted(pieces, head) => self.headed(head).says(Answer::Pieces(pieces)),
-            Listed::Refused(refusal, head) => self.headed(head).says(Answer::Refused(refusal)),
+            Listed::Accepted(pieces, head) => self.told(head, Answer::Pieces(pieces)),
+            Listed::Refused(refusal, head) => self.told(head, Answer::Refused(refusal)),
         }
     }
 
     // The new head names the block to erase.
-    fn copied(self, listed: Listed) -> Step {
+    pub fn copied(self, listed: Listed) -> Step {
         match listed {
             Listed::Accepted(pages, head) => {
                 let erase = head.reserve;
-                self.headed(head).says(Answer::Copied(pages, erase))
+                self.told(head, Answer::Copied(pages, erase))
             }
-            Listed::Refused(refusal, head) => self.headed(head).says(Answer::Refused(refusal)),
+            Listed::Refused(refusal, head) => self.told(head, Answer::Refused(refusal)),
         }
     }
 
-    fn counted(self, counted: Counted) -> Step {
+    pub fn counted(self, counted: Counted) -> Step {
         match counted {
             Counted::Accepted(free, live, stale, head) => {
-                self.headed(head).says(Answer::Counts(free, live, stale))
+                self.told(head, Answer::Counts(free, live, stale))
             }
-            Counted::Refused(refusal, head) => self.headed(head).says(Answer::Refused(refusal)),
+            Counted::Refused(refusal, head) => self.told(head, Answer::Refused(refusal)),
         }
     }
-}
-
-// ---- the calls
-
-pub fn write(
-    d: Device,
-    ext: &mut [u32],
-    blk: &mut [u32],
-    spare: &mut [u32],
-    out: &mut [u32],
-    number: u64,
-    start: u32,
-    count: u32,
-) -> Step {
-    let head = d.head;
-    let listed = layer::write(head, ext, blk, spare, number, start, count, out);
-    d.pieces(listed)
-}
-
-pub fn trim(
-    d: Device,
-    ext: &mut [u32],
-    blk: &mut [u32],
-    spare: &[u32],
-    number: u64,
-    start: u32,
-    count: u32,
-) -> Step {
-    let head = d.head;
-    let done = layer::trim(head, ext, blk, spare, number, start, count);
-    d.done(done)
-}
-
-pub fn read(
-    d: Device,
-    ext: &[u32],
-    blk: &[u32],
-    spare: &[u32],
-    out: &mut [u32],
-    start: u32,
-    count: u32,
-) -> Step {
-    let head = d.head;
-    let listed = layer::read(head, ext, blk, spare, start, count, out);
-    d.pieces(listed)
-}
-
-pub fn reclaim(
-    d: Device,
-    ext: &mut [u32],
-    blk: &mut [u32],
-    spare: &mut [u32],
-    out: &mut [u32],
-) -> Step {
-    let head = d.head;
-    let listed = layer::reclaim(head, ext, blk, spare, out);
-    d.copied(listed)
-}
-
-pub fn report(d: Device, ext: &[u32], blk: &[u32], spare: &[u32]) -> Step {
-    let head = d.head;
-    let counted = layer::report(head, ext, blk, spare);
-    d.counted(counted)
 }
 
 // Sizes that are not held are no request, but for B: more blocks than are held are refused whatever the lengths, and no more are lent. A
@@ -227,13 +153,13 @@ pub fn fresh(
 ) -> Step {
     let all = product(blocks, pages);
     if all > MOST_PAGES as u64 {
-        return d.says(Answer::Wrong(Wrong::Sizes));
+        return d.says(Answer::Wrong(line::SIZES, 0));
     }
     if slots > MOST_SLOTS as u32 {
-        return d.says(Answer::Wrong(Wrong::Sizes));
+        return d.says(Answer::Wrong(line::SIZES, 0));
     }
     let e = within(3 * slots as usize, ext);
-    let b = within(2 * blocks as usize, blk);
+    let b = within(words::STRIDE * blocks as usize, blk);
     let s = within(all as usize, spare);
     let done = layer::fresh(
         blocks,
@@ -247,27 +173,17 @@ pub fn fresh(
     d.begun(done, e, b, s)
 }
 
-// ---- changes to what is lent
-
 // Sets the word at index.
 pub fn poke(d: Device, words: &mut [u32], index: u32, value: u32) -> Step {
     let i = index as usize;
     if i >= words.len() {
-        return d.says(Answer::Wrong(Wrong::Index));
+        return d.says(Answer::Wrong(line::INDEX, 0));
     }
     words[i] = value;
     d.says(Answer::Ok)
 }
 
-// ---- lengths
-
-// The number from 0 to the length of words that is nearest to n.
-pub fn within(n: usize, words: &[u32]) -> usize
-    ensures { λ r. ⌜ Counts r (now (words .entry)) ⌝ }
-{
-    if n < words.len() { n } else { words.len() }
-}
-
+// How many pages that many blocks have.
 fn product(a: u32, b: u32) -> u64 {
     a as u64 * b as u64
 }

@@ -1,10 +1,7 @@
 // Answers a request list (docs/REPLAY.md): the file that its argument names, or standard input where there is none. The list is read in
 // pieces and no line is kept, so neither has a longest. What cannot be read or printed is said on standard error.
 mod device;
-mod line;
-mod print;
 mod session;
-mod word;
 
 use device::ANSWER_WORDS;
 use device::BLOCK_WORDS;
@@ -12,7 +9,7 @@ use device::EXTENT_WORDS;
 use device::SPARE_WORDS;
 use libc::STDERR_FILENO;
 use libc::STDIN_FILENO;
-use line::Line;
+use lists::line::Line;
 use session::Session;
 
 // What came of a read, and whether there may be more.
@@ -127,16 +124,8 @@ fn answer(list: i32, name: &[u8]) {
     }
 }
 
-fn main() {
-    let count = os::arg_count();
-    if count < 2 {
-        answer(STDIN_FILENO, b"standard input");
-        return;
-    }
-    if count > 2 {
-        io::write_all(STDERR_FILENO, b"replay: one file at most\n");
-        return;
-    }
+// Answers the list that the argument names.
+fn answer_named() {
     let mut path = io::buffer();
     let n = os::arg(1, &mut path);
     if os::errno() != 0 {
@@ -150,4 +139,17 @@ fn main() {
     }
     answer(list, &path[..n]);
     libc::close(list);
+}
+
+fn main() {
+    let count = os::arg_count();
+    if count < 2 {
+        answer(STDIN_FILENO, b"standard input");
+        return;
+    }
+    if count > 2 {
+        io::write_all(STDERR_FILENO, b"replay: one file at most\n");
+        return;
+    }
+    answer_named();
 }

@@ -1,17 +1,17 @@
 // One line after the other: what is asked is done to what is lent, and the answer printed.
 use crate::device;
 use crate::device::ANSWER_WORDS;
-use crate::device::Answer;
 use crate::device::BLOCK_WORDS;
 use crate::device::Device;
 use crate::device::EXTENT_WORDS;
 use crate::device::SPARE_WORDS;
 use crate::device::Step;
-use crate::device::within;
-use crate::line::Asked;
-use crate::line::Line;
-use crate::print::Sink;
-use crate::word;
+use lists::line::Asked;
+use lists::line::Line;
+use lists::print::Answer;
+use lists::print::Sink;
+use lists::within;
+use lists::word;
 
 pub struct Session {
     pub line: Line,
@@ -60,19 +60,64 @@ impl Session {
         page: &mut [u8; 4096],
     ) -> Self {
         let line = self.line;
-        let before = self.device;
+        let asked = line.asked();
+        let ended = self.ended();
+        match asked {
+            Asked::Nothing => ended,
+            Asked::State => ended.shown(ext, blk, spare, page),
+            _ => ended.answered(asked, ext, blk, spare, out, page),
+        }
+    }
+
+    fn ended(self) -> Self {
+        let device = self.device;
         let sink = self.sink;
-        let lines = next(self.lines);
-        let step = done(before, line.asked(), ext, blk, spare, out);
+        Self {
+            line: Line::new(),
+            lines: next(self.lines),
+            device: device,
+            sink: sink,
+        }
+    }
+
+    // Shows the head and the words that are lent.
+    fn shown(
+        mut self,
+        ext: &[u32; EXTENT_WORDS],
+        blk: &[u32; BLOCK_WORDS],
+        spare: &[u32; SPARE_WORDS],
+        page: &mut [u8; 4096],
+    ) -> Self {
+        let d = self.device;
+        let head = d.head;
+        let sink = self.sink;
+        let after = sink.head(page, head)
+            .lent(page, b"extents", ext, d.extents)
+            .lent(page, b"blocks", blk, d.blocks)
+            .lent(page, b"spare", spare, d.spare);
+        self.sink = after;
+        self
+    }
+
+    // Does what is asked, and prints the answer.
+    fn answered(
+        mut self,
+        asked: Asked,
+        ext: &mut [u32; EXTENT_WORDS],
+        blk: &mut [u32; BLOCK_WORDS],
+        spare: &mut [u32; SPARE_WORDS],
+        out: &mut [u32; ANSWER_WORDS],
+        page: &mut [u8; 4096],
+    ) -> Self {
+        let before = self.device;
+        let step = done(before, asked, ext, blk, spare, out);
         let device = step.device;
         let answer = step.answer;
-        let after = shown(sink, page, lines, device, answer, ext, blk, spare, out);
-        Session {
-            line: Line::new(),
-            lines: lines,
-            device: device,
-            sink: after,
-        }
+        let sink = self.sink;
+        let after = sink.answer(page, self.lines, out, answer);
+        self.device = device;
+        self.sink = after;
+        self
     }
 }
 
@@ -80,7 +125,7 @@ fn next(lines: u64) -> u64 {
     if lines < u64::MAX { lines + 1 } else { lines }
 }
 
-// What is asked, done. All but fresh are lent the words that the last accepted fresh decided on.
+// What is asked, done.
 fn done(
     d: Device,
     asked: Asked,
@@ -90,14 +135,12 @@ fn done(
     out: &mut [u32],
 ) -> Step {
     match asked {
-        Asked::Nothing => d.says(Answer::Nothing),
-        Asked::Wrong(wrong) => d.says(Answer::Wrong(wrong)),
         Asked::Fresh(blocks, pages, logical, slots) => {
             device::fresh(d, ext, blk, spare, blocks, pages, logical, slots)
         }
+        Asked::Wrong(wrong, place) => d.says(Answer::Wrong(wrong, place)),
         Asked::Room(words) => d.room(words),
         Asked::Head(field, value) => d.head(field, value),
-        Asked::State => d.says(Answer::State),
         _ => {
             let e = within(d.extents, ext);
             let b = within(d.blocks, blk);
@@ -115,6 +158,7 @@ fn done(
     }
 }
 
+// A call. It is lent the words that the last accepted fresh decided on.
 fn called(
     d: Device,
     asked: Asked,
@@ -123,70 +167,45 @@ fn called(
     spare: &mut [u32],
     out: &mut [u32],
 ) -> Step {
+    let head = d.head;
     match asked {
         Asked::Write(number, start, count) => {
-            device::write(d, ext, blk, spare, out, number, start, count)
+            let listed = layer::write(head, ext, blk, spare, number, start, count, out);
+            d.pieces(listed)
         }
-        Asked::Trim(number, start, count) => device::trim(d, ext, blk, spare, number, start, count),
-        Asked::Read(start, count) => device::read(d, ext, blk, spare, out, start, count),
-        Asked::Reclaim => device::reclaim(d, ext, blk, spare, out),
-        Asked::Report => device::report(d, ext, blk, spare),
-        Asked::Poke(buffer, index, value) => match buffer {
-            word::EXTENTS => device::poke(d, ext, index, value),
-            word::BLOCKS => device::poke(d, blk, index, value),
-            _ => device::poke(d, spare, index, value),
-        },
+        Asked::Trim(number, start, count) => {
+            let done = layer::trim(head, ext, blk, spare, number, start, count);
+            d.done(done)
+        }
+        Asked::Read(start, count) => {
+            let listed = layer::read(head, ext, blk, spare, start, count, out);
+            d.pieces(listed)
+        }
+        Asked::Reclaim => {
+            let listed = layer::reclaim(head, ext, blk, spare, out);
+            d.copied(listed)
+        }
+        Asked::Report => {
+            let counted = layer::report(head, ext, blk, spare);
+            d.counted(counted)
+        }
+        Asked::Poke(buffer, index, value) => poked(d, ext, blk, spare, buffer, index, value),
         _ => d.says(Answer::Nothing),
     }
 }
 
-// The answer to line `number`, printed.
-fn shown(
-    sink: Sink,
-    page: &mut [u8; 4096],
-    number: u64,
+fn poked(
     d: Device,
-    answer: Answer,
-    ext: &[u32],
-    blk: &[u32],
-    spare: &[u32],
-    out: &[u32],
-) -> Sink {
-    match answer {
-        Answer::Nothing => sink,
-        Answer::Ok => sink.text(page, b"ok\n"),
-        Answer::Refused(refusal) => sink.refused(page, refusal),
-        Answer::Pieces(count) => {
-            sink.list(page, out, count, 3 * count as usize)
-                .byte(page, b'\n')
-        }
-        Answer::Copied(count, block) => {
-            let listed = sink.list(page, out, count, count as usize);
-            listed
-                .text(page, b" erase")
-                .word(page, block as u64)
-                .byte(page, b'\n')
-        }
-        Answer::Counts(free, live, stale) => sink.counts(page, free, live, stale),
-        Answer::State => state(sink, page, d, ext, blk, spare),
-        Answer::Wrong(wrong) => sink.wrong(page, number, wrong),
+    ext: &mut [u32],
+    blk: &mut [u32],
+    spare: &mut [u32],
+    buffer: u64,
+    index: u32,
+    value: u32,
+) -> Step {
+    match buffer {
+        word::EXTENTS => device::poke(d, ext, index, value),
+        word::BLOCKS => device::poke(d, blk, index, value),
+        _ => device::poke(d, spare, index, value),
     }
-}
-
-fn state(
-    sink: Sink,
-    page: &mut [u8; 4096],
-    d: Device,
-    ext: &[u32],
-    blk: &[u32],
-    spare: &[u32],
-) -> Sink {
-    let e = within(d.extents, ext);
-    let b = within(d.blocks, blk);
-    let s = within(d.spare, spare);
-    let head = d.head;
-    sink.head(page, head)
-        .lent(page, b"extents", &ext[..e])
-        .lent(page, b"blocks", &blk[..b])
-        .lent(page, b"spare", &spare[..s])
 }

@@ -1,10 +1,10 @@
--- `replay::print::Sink::emptied` is safe: the part that it writes lies within the page.
+-- `lists::print::Sink::emptied` is safe: the part that it writes lies within the page.
 -- Assumes nothing.
 use borrow.Author.Needs.{needs}
 use native.Mathlib.Omega.{arith}
-use Rattle.replay.proofs.Parts.{whole}
-use Rattle.replay.proofs.print.Sink.emptied.Statement.{statement}
-use Rattle.replay.proofs.print.Sink.emptied.Tie as tie
+use Rattle.lists.proofs.Parts.{whole}
+use Rattle.lists.proofs.print.Sink.emptied.Statement.{statement}
+use Rattle.lists.proofs.print.Sink.emptied.Tie as tie
 
 returns : tie.Need-returns
 returns c = search needs

@@ -2,24 +2,32 @@
 use crate::word;
 use crate::word::Word;
 
-// What is wrong with a line.
-pub enum Wrong {
-    Spaces,
-    Unknown,
-    Missing,
-    Extra,
-    NoBuffer,
-    NoField,
-    NotANumber(u64),
-    TooLarge(u64),
-    Sizes,
-    Index,
-}
+// What is wrong with a line, by its row in the table of docs/REPLAY.md, which `print` has in the same order.
+pub const SPACES: u64 = 1;
 
-// What a line asks: a buffer or a field goes by its name. All numbers are in their limits.
+pub const UNKNOWN: u64 = 2;
+
+pub const MISSING: u64 = 3;
+
+pub const EXTRA: u64 = 4;
+
+pub const NO_BUFFER: u64 = 5;
+
+pub const NO_FIELD: u64 = 6;
+
+pub const NOT_A_NUMBER: u64 = 7;
+
+pub const TOO_LARGE: u64 = 8;
+
+pub const SIZES: u64 = 9;
+
+pub const INDEX: u64 = 10;
+
+// What a line asks: a buffer or a field goes by its name. All numbers are in their limits. Where it is wrong: in what, and the place of the
+// word that is, or 0.
 pub enum Asked {
     Nothing,
-    Wrong(Wrong),
+    Wrong(u64, u64),
     Fresh(u32, u32, u32, u32),
     Write(u64, u32, u32),
     Trim(u64, u32, u32),
@@ -158,39 +166,39 @@ impl Line {
         }
         let line = self.after_word();
         if !line.is_spaced {
-            return Asked::Wrong(Wrong::Spaces);
+            return Asked::Wrong(SPACES, 0);
         }
         let length = length_of(line.verb);
         if length == 0 {
-            return Asked::Wrong(Wrong::Unknown);
+            return Asked::Wrong(UNKNOWN, 0);
         }
         if line.words < length {
-            return Asked::Wrong(Wrong::Missing);
+            return Asked::Wrong(MISSING, 0);
         }
         if line.words > length {
-            return Asked::Wrong(Wrong::Extra);
+            return Asked::Wrong(EXTRA, 0);
         }
         if line.wrong != 0 {
-            return Asked::Wrong(line.fault());
+            return line.fault();
         }
         line.request()
     }
 
     // What is wrong with the first word that is.
-    fn fault(self) -> Wrong {
+    fn fault(self) -> Asked {
         if self.wrong == 2 {
             if self.verb == word::POKE {
-                return Wrong::NoBuffer;
+                return Asked::Wrong(NO_BUFFER, 2);
             }
             if self.verb == word::HEAD {
-                return Wrong::NoField;
+                return Asked::Wrong(NO_FIELD, 2);
             }
         }
         let place = self.wrong;
         if self.is_number {
-            return Wrong::TooLarge(place);
+            return Asked::Wrong(TOO_LARGE, place);
         }
-        Wrong::NotANumber(place)
+        Asked::Wrong(NOT_A_NUMBER, place)
     }
 
     // The request, where no word is wrong, missing or too many.

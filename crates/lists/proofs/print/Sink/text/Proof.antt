@@ -1,10 +1,10 @@
--- `replay::print::Sink::text` is safe and ends. Nothing has to hold from byte to byte; the measure is what is left of them.
+-- `lists::print::Sink::text` is safe and ends. Nothing has to hold from byte to byte; the measure is what is left of them.
 -- Assumes nothing.
 use Prim.Native.Nat.{_-_}
 use lib.ListN.{length}
 use borrow.Author.Needs.{needs}
-use Rattle.replay.proofs.print.Sink.text.Statement.{statement}
-use Rattle.replay.proofs.print.Sink.text.Tie as tie
+use Rattle.lists.proofs.print.Sink.text.Statement.{statement}
+use Rattle.lists.proofs.print.Sink.text.Tie as tie
 
 abbrev Inv-loop : tie.InvT-loop
 Inv-loop page₀ bytes s₀ i₀ page s i = Unit {0}

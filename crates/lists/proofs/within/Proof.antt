@@ -1,9 +1,9 @@
--- `replay::device::within` answers no more than the length.
+-- `lists::within` answers no more than the length.
 -- Assumes nothing.
 use native.Mathlib.Omega.{arith}
-use Rattle.replay.proofs.Parts.{whole}
-use Rattle.replay.proofs.device.within.Statement.{statement}
-use Rattle.replay.proofs.device.within.Tie as tie
+use Rattle.lists.proofs.Parts.{whole}
+use Rattle.lists.proofs.within.Statement.{statement}
+use Rattle.lists.proofs.within.Tie as tie
 
 returns : tie.Need-returns
 returns c = (omega arith, whole _ _ (omega arith))
