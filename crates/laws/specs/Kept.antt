@@ -49,6 +49,14 @@ pub refuse-pass : (t : Bool) (r : Refusal) (later : ℕ) → t ≡ false → lat
 unfolding refuse
 refuse-pass t r later e z = rw (e, z)
 
+-- 1 and 2, and then the refusals of a call's own
+pub tested-none : (own : Device → ℕ) (s : Lent) → tested own s ≡ 0 → (shaped s ≡ true) × (sound s ≡ true) × (own (deviceOf s) ≡ 0)
+unfolding tested
+tested-none own s e =
+    let a = refuse-none (not (shaped s)) Refusal.Shape _ e in
+    let b = refuse-none (not (sound s)) Refusal.Damaged _ (a .1) in
+    (not-false (shaped s) (a .0), not-false (sound s) (b .0), b .1)
+
 -- 3
 pub record InRange (l n : ℕ) (d : Device) : Type 0 where
   pub some : 0 < n
@@ -168,7 +176,8 @@ passes Call.report d t = refl
 
 -- ---- what an accepted call leaves is good
 
-sizes-same : (d e : Device) → e .pages ≡ d .pages → e .slots ≡ d .slots → blocks e ≡ blocks d → lines e ≡ lines d → Sizes (blocks d) (d .pages) (lines d) (d .slots) → Sizes (blocks e) (e .pages) (lines e) (e .slots)
+sizes-same : (d e : Device) → e .pages ≡ d .pages → e .slots ≡ d .slots → blocks e ≡ blocks d → lines e ≡ lines d
+    → Sizes (blocks d) (d .pages) (lines d) (d .slots) → Sizes (blocks e) (e .pages) (lines e) (e .slots)
 sizes-same d e p m b l z = rw (p, m, b, l) z
 
 -- the number is no part of the map
@@ -176,7 +185,8 @@ numbered-good : (k : ℕ) (e : Device) → Sizes (blocks e) (e .pages) (lines e)
 unfolding numbered withTable extents
 numbered-good k e z f s = record { sizes = z; sound = s; few = f }
 
-trimmed-sizes : (k l n : ℕ) (d : Device) → Sizes (blocks d) (d .pages) (lines d) (d .slots) → Sizes (blocks (trimmed k l n d)) (trimmed k l n d .pages) (lines (trimmed k l n d)) (trimmed k l n d .slots)
+trimmed-sizes : (k l n : ℕ) (d : Device) → Sizes (blocks d) (d .pages) (lines d) (d .slots)
+    → Sizes (blocks (trimmed k l n d)) (trimmed k l n d .pages) (lines (trimmed k l n d)) (trimmed k l n d .slots)
 unfolding trimmed withTable
 trimmed-sizes k l n d z = sizes-same d (trimmed k l n d) refl refl refl (trimmed-lines k l n d) z
 
@@ -233,12 +243,11 @@ pub record AcceptedIn (c : Call) (s : Lent) : Type 0 where
   pub after : call c s .after ≡ wordsOf (leaves c (deviceOf s))
 
 pub accepted-in : (c : Call) (s : Lent) → call c s .refusal ≡ 0 → AcceptedIn c s
-unfolding call acceptedOn tested
+unfolding call acceptedOn
 accepted-in c s e =
     let v : verdict c s ≡ 0 = sym (call-verdict c s) ∙ e in
-    let a = refuse-none (not (shaped s)) Refusal.Shape _ v in
-    let b = refuse-none (not (sound s)) Refusal.Damaged _ (a .1) in
-    record { shape = not-false (shaped s) (a .0); whole = not-false (sound s) (b .0); plainly = b .1; after = rw (eq-eqb (verdict c s) 0 v) }
+    let t = tested-none (refusal c) s v in
+    record { shape = t .0; whole = t .1; plainly = t .2; after = rw (eq-eqb (verdict c s) 0 v) }
 
 -- and leaves a sound state
 pub accepted-sound : (c : Call) (s : Lent) → call c s .refusal ≡ 0 → (shaped (call c s .after) ≡ true) × (sound (call c s .after) ≡ true)
