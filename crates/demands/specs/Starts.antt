@@ -114,7 +114,7 @@ module _ (b n l m : ℕ) (z : sizes b n l m ≡ true) where
         table = every (lines d) hole (reads s f) (λ k h. reads-contents d f fresh-good k h ∙ see-hole f (at d k) (fresh-at b n l m k)) i;
       }
 
--- an accepted fresh leaves that state, whatever was lent
+-- an accepted fresh leaves the words of that device, whatever was lent
 module _ (b n l m : ℕ) (es bs ss : List ℕ) (e : fresh b n l m es bs ss .refusal ≡ 0) where
   leaves : (sizes b n l m ≡ true) × (fresh b n l m es bs ss .after ≡ wordsOf (freshDevice b n l m))
   unfolding fresh shape
@@ -130,7 +130,7 @@ module _ (b n l m : ℕ) (es bs ss : List ℕ) (e : fresh b n l m es bs ss .refu
   pub made-begins : let s = fresh b n l m es bs ss .after in beginFresh s ≡ begin s (erasedFlash s)
   made-begins = subst (λ (s : Lent). beginFresh s ≡ begin s (erasedFlash s)) (sym (leaves .1)) (fresh-begins b n l m (leaves .0))
 
-  -- which is sound
+  -- a sound state
   pub fresh-leaves-sound : (shaped (fresh b n l m es bs ss .after) ≡ true) × (sound (fresh b n l m es bs ss .after) ≡ true)
   unfolding fresh
   fresh-leaves-sound = make-sound (fromSizes b n l m) es bs ss made-good e

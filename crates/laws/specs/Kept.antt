@@ -50,6 +50,14 @@ pub refuse-pass : (t : Bool) (r : Refusal) (later : ℕ) → t ≡ false → lat
 unfolding refuse
 refuse-pass t r later e z = rw (e, z)
 
+-- 1 and 2, and then the refusals of a call's own
+pub tested-none : (own : Device → ℕ) (s : Lent) → tested own s ≡ 0 → (shaped s ≡ true) × (sound s ≡ true) × (own (deviceOf s) ≡ 0)
+unfolding tested
+tested-none own s e =
+    let a = refuse-none (not (shaped s)) Refusal.Shape _ e in
+    let b = refuse-none (not (sound s)) Refusal.Damaged _ (a .1) in
+    (not-false (shaped s) (a .0), not-false (sound s) (b .0), b .1)
+
 -- 3
 pub record InRange (l n : ℕ) (d : Device) : Type 0 where
   pub some : 0 < n
@@ -236,12 +244,11 @@ pub record AcceptedIn (c : Call) (s : Lent) : Type 0 where
   pub after : call c s .after ≡ wordsOf (leaves c (deviceOf s))
 
 pub accepted-in : (c : Call) (s : Lent) → call c s .refusal ≡ 0 → AcceptedIn c s
-unfolding call acceptedOn tested
+unfolding call acceptedOn
 accepted-in c s e =
     let v : verdict c s ≡ 0 = sym (call-verdict c s) ∙ e in
-    let a = refuse-none (not (shaped s)) Refusal.Shape _ v in
-    let b = refuse-none (not (sound s)) Refusal.Damaged _ (a .1) in
-    record { shape = not-false (shaped s) (a .0); whole = not-false (sound s) (b .0); plainly = b .1; after = rw (eq-eqb (verdict c s) 0 v) }
+    let t = tested-none (refusal c) s v in
+    record { shape = t .0; whole = t .1; plainly = t .2; after = rw (eq-eqb (verdict c s) 0 v) }
 
 -- and leaves a sound state
 pub accepted-sound : (c : Call) (s : Lent) → call c s .refusal ≡ 0 → (shaped (call c s .after) ≡ true) × (sound (call c s .after) ≡ true)

@@ -1,22 +1,19 @@
 -- Views: the outcome of one that is accepted and of one that is refused; and report and read as views.
 use Prim.Native.Nat.{ℕ}
-use mathlib.Core.Bool.{true, not, cond}
+use mathlib.Core.Bool.{cond}
 use mathlib.Core.Path.{_≡_}
 use mathlib.Core.List.{List}
 use mathlib.Core.Logic.{by-cases}
 use native.Mathlib.Decide.{ℕ-discrete}
-use borrow.Author.Tests.{not-false, ne-eqb}
+use borrow.Author.Tests.{ne-eqb}
 use lib.Dec.{eqb}
 use lib.ListN.{replicate}
 use Rattle.rules.specs.Lent.{Lent}
-use Rattle.rules.specs.Shape.{shaped}
-use Rattle.rules.specs.Sound.{sound}
 use Rattle.rules.specs.Device.{Device, deviceOf, wordsOf}
 use Rattle.rules.specs.Answers.{Outcome}
 use Rattle.rules.specs.Calls.{Call, refusal, counts, leaves, lists, over, refused, tested, acceptedOn, call}
 use Rattle.rules.specs.Views.{View, view, reporting, reading}
-use Rattle.rules.specs.declared.Refusal.{Refusal}
-use Rattle.laws.specs.Kept.{refuse-none, device-is}
+use Rattle.laws.specs.Kept.{tested-none, device-is}
 
 -- ---- of any view: what 1, 2 and its own refusals give decides
 
@@ -33,15 +30,7 @@ module _ (v : View) (s : Lent) where
 
 -- ---- report and read are views: what they leave is what they were given
 
--- where nothing is refused, 1 and 2 are passed
-tested-none : (own : Device → ℕ) (s : Lent) → tested own s ≡ 0 → (shaped s ≡ true) × (sound s ≡ true)
-unfolding tested
-tested-none own s e =
-    let a = refuse-none (not (shaped s)) Refusal.Shape _ e in
-    let b = refuse-none (not (sound s)) Refusal.Damaged _ (a .1) in
-    (not-false (shaped s) (a .0), not-false (sound s) (b .0))
-
--- the words of a view's device are the state as it was
+-- the words of its device are the state that was given
 module _ (v : View) (s : Lent) where
   abbrev r : ℕ
   r = tested (v .refusal) s

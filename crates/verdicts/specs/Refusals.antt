@@ -7,7 +7,7 @@ use native.Mathlib.Omega.{arith}
 use borrow.Author.Tests.{eq-eqb, ne-eqb, not-true, not-false, leb-true, leb-false, lt-ltb, le-ltb}
 use lib.Dec.{eqb, ltb, leb}
 use Rattle.laws.specs.Bools.{cases}
-use Rattle.laws.specs.Kept.{refuse-none}
+use Rattle.laws.specs.Kept.{tested-none}
 use Rattle.laws.specs.Views.{view-refuses}
 use lib.ListN.{length, replicate}
 use Rattle.rules.specs.Lent.{Lent}
@@ -32,7 +32,7 @@ firstOf (Verdict.Refused r) later = number r
 
 -- 1 and 2
 unfoldable pub lentRefusal : Lent → ℕ
-lentRefusal s = refuse (not (shaped s)) Refusal.Shape (refuse (not (sound s)) Refusal.Damaged 0)
+lentRefusal s = tested (λ d. 0) s
 
 -- a request whose answer buffer has a room of so many words: a verdict looks at nothing else of it
 abbrev pub roomed : ℕ → List ℕ
@@ -100,27 +100,7 @@ first-then v {t} {u} r {m} {n} e f g =
 
 -- ---- 1 and 2
 
-module _ (s : Lent) where
-  pub lent-shape : shaped s ≡ false → number Refusal.Shape ≡ lentRefusal s
-  unfolding lentRefusal
-  lent-shape e = sym (refuse-here (not (shaped s)) Refusal.Shape _ (ap not e))
-
-  pub lent-damaged : shaped s ≡ true → sound s ≡ false → number Refusal.Damaged ≡ lentRefusal s
-  unfolding lentRefusal
-  lent-damaged e f = sym (refuse-later (not (shaped s)) Refusal.Shape _ (ap not e) ∙ refuse-here (not (sound s)) Refusal.Damaged 0 (ap not f))
-
-  pub lent-sound : shaped s ≡ true → sound s ≡ true → 0 ≡ lentRefusal s
-  unfolding lentRefusal
-  lent-sound e f = sym (refuse-later (not (shaped s)) Refusal.Shape _ (ap not e) ∙ refuse-later (not (sound s)) Refusal.Damaged 0 (ap not f))
-
-  -- by two tests, of which the second is made where the first is passed
-  pub lent-first : (t u : Bool) (a b : Verdict) → t ≡ shaped s → (t ≡ true → u ≡ sound s)
-      → told a ≡ refuse (not t) Refusal.Shape 0 → told b ≡ refuse (not u) Refusal.Damaged 0 → firstOf a (told b) ≡ lentRefusal s
-  unfolding lentRefusal
-  lent-first t u a b e f p q =
-      first-then a Refusal.Shape p (ap not e) (λ g. q ∙ ap (λ (x : Bool). refuse (not x) Refusal.Damaged 0) (f (e ∙ not-false (shaped s) g)))
-
--- 1 and 2, before the refusals of a call's own
+-- before the refusals of a call's own
 module _ (own : Device → ℕ) (s : Lent) where
   pub tested-shape : shaped s ≡ false → tested own s ≡ number Refusal.Shape
   unfolding tested
@@ -133,6 +113,26 @@ module _ (own : Device → ℕ) (s : Lent) where
   pub tested-plain : shaped s ≡ true → sound s ≡ true → tested own s ≡ own (deviceOf s)
   unfolding tested
   tested-plain e f = refuse-later _ Refusal.Shape _ (ap not e) ∙ refuse-later _ Refusal.Damaged _ (ap not f)
+
+module _ (s : Lent) where
+  pub lent-shape : shaped s ≡ false → number Refusal.Shape ≡ lentRefusal s
+  unfolding lentRefusal
+  lent-shape e = sym (tested-shape _ s e)
+
+  pub lent-damaged : shaped s ≡ true → sound s ≡ false → number Refusal.Damaged ≡ lentRefusal s
+  unfolding lentRefusal
+  lent-damaged e f = sym (tested-damaged _ s e f)
+
+  pub lent-sound : shaped s ≡ true → sound s ≡ true → 0 ≡ lentRefusal s
+  unfolding lentRefusal
+  lent-sound e f = sym (tested-plain _ s e f)
+
+  -- by two tests, of which the second is made where the first is passed
+  pub lent-first : (t u : Bool) (a b : Verdict) → t ≡ shaped s → (t ≡ true → u ≡ sound s)
+      → told a ≡ refuse (not t) Refusal.Shape 0 → told b ≡ refuse (not u) Refusal.Damaged 0 → firstOf a (told b) ≡ lentRefusal s
+  unfolding lentRefusal tested
+  lent-first t u a b e f p q =
+      first-then a Refusal.Shape p (ap not e) (λ g. q ∙ ap (λ (x : Bool). refuse (not x) Refusal.Damaged 0) (f (e ∙ not-false (shaped s) g)))
 
 -- ---- the answer
 
@@ -149,10 +149,7 @@ module _ (c : Call) (s : Lent) where
 
 pub lent-none : (s : Lent) → 0 ≡ lentRefusal s → (shaped s ≡ true) × (sound s ≡ true)
 unfolding lentRefusal
-lent-none s e =
-    let t = refuse-none (not (shaped s)) Refusal.Shape (refuse (not (sound s)) Refusal.Damaged 0) (sym e) in
-    let u = refuse-none (not (sound s)) Refusal.Damaged 0 (t .1) in
-    (not-false (shaped s) (t .0), not-false (sound s) (u .0))
+lent-none s e = let t = tested-none _ s (sym e) in (t .0, t .1)
 
 pub lent-some : (own : Device → ℕ) (s : Lent) (r : Refusal) → number r ≡ lentRefusal s → tested own s ≡ number r
 lent-some own s r e =

@@ -1,3 +1,4 @@
+-- A report that nothing refuses: the totals of the block records are the counts of the view.
 use Rattle.rules.specs.Lent.{Lent, lent}
 use Rattle.accepted.specs.Report.{report-filled, report-counts}
 use Rattle.accepted.proofs.count_pages.Statement.{statement}

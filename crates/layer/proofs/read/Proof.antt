@@ -1,3 +1,4 @@
+-- A read: refused by either verdict, or its pieces listed, as a view lists them.
 use borrow.Author.Needs.{needs}
 use native.Mathlib.Omega.{arith}
 use Rattle.rules.specs.Lent.{Lent, lent}

@@ -1,3 +1,4 @@
+-- A report: refused by the first verdict as a view is, or counted.
 use mathlib.Core.Path.{sym, _∙_}
 use borrow.Author.Needs.{needs}
 use Rattle.rules.specs.Lent.{Lent, lent}
