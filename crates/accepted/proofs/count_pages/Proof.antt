@@ -4,10 +4,17 @@ use Rattle.accepted.proofs.count_pages.Statement.{statement}
 use Rattle.accepted.proofs.count_pages.Tie as tie
 
 totals-of-requires : tie.Need-totals-of-requires
-totals-of-requires c κs = report-filled (lent (c .before .before .before .args .h) (c .before .before .before .args .ext .now) (c .before .before .before .args .blk .now) (c .before .before .before .args .spare .now)) (c .before .before .before .pre)
+totals-of-requires c κs =
+    let s = c .before .before .before in
+    let a = s .args in
+    report-filled (lent (a .h) (a .ext .now) (a .blk .now) (a .spare .now)) (s .pre)
 
 returns : tie.Need-returns
-returns c = report-counts (lent (c .before .before .before .before .args .h) (c .before .before .before .before .args .ext .now) (c .before .before .before .before .args .blk .now) (c .before .before .before .before .args .spare .now)) _ (c .before .before .before .before .pre) (c .totals-of .ensures)
+returns c =
+    let s = c .before .before .before .before in
+    let a = s .args in
+    report-counts (lent (a .h) (a .ext .now) (a .blk .now) (a .spare .now)) _ (s .pre) (c .totals-of .ensures)
 
 pub count-pages-spec : {M : Type 1} → statement M
-count-pages-spec = tie.close (tie.spec totals-of-requires returns)
+count-pages-spec =
+    tie.close (tie.spec totals-of-requires returns)
