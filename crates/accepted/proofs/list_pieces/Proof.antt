@@ -9,32 +9,31 @@ use Rattle.accepted.proofs.list_pieces.Tie as tie
 abbrev state : tie.Start → Lent
 state s = lent (s .args .h) (s .args .ext .now) (s .args .blk .now) (s .args .spare .now)
 
-cast-list-found : tie.Need-cast-list-found
-cast-list-found c = search needs
+abbrev start : tie.After-struct-known → tie.Start
+start w = w .before .before .before .before .before
 
 add-list-found : tie.Need-add-list-found
 add-list-found c =
-    let s = c .before .before .before .before .before in
-    omega (arith, read-inside (s .args .l) (s .args .n) (s .args .out .now) (state s) (s .pre .0))
+    let s = start c in
+    let a = s .args in
+    omega (arith, read-inside (a .l) (a .n) (a .out .now) (state s) (s .pre .0))
 
 list-found-requires : tie.Need-list-found-requires
 list-found-requires c κs =
-    let s = c .before .before .before .before .before .before in
+    let s = start (c .before) in
+    let a = s .args in
     let z = s .pre .0 in (
-      (read-slots (s .args .l) (s .args .n) (s .args .out .now) (state s) z, omega arith, rows-sound (state s) (z .shape) (z .sane), s .pre .1),
-      read-fits (s .args .l) (s .args .n) (s .args .out .now) (state s) z,
+      (read-slots (a .l) (a .n) (a .out .now) (state s) z, omega arith, rows-sound (state s) (z .shape) (z .sane), s .pre .1),
+      read-fits (a .l) (a .n) (a .out .now) (state s) z,
     )
 
 cast-result : tie.Need-cast-result
 cast-result c =
-    let s = c .before .before .before .before .before .before .before .before .before in
-    omega (arith, read-few (s .args .l) (s .args .n) (s .args .out .now) (state s) (s .pre .0), c .before .before .list-found .ensures .0)
-
-same-length : tie.Need-same-length
-same-length c = search needs
-
-returns : tie.Need-returns
-returns c = search needs
+    let s = start (c .before .before .before .before) in
+    let a = s .args in
+    omega (arith, read-few (a .l) (a .n) (a .out .now) (state s) (s .pre .0), c .before .before .list-found .ensures .0)
 
 pub list-pieces-spec : {M : Type 1} → statement M
-list-pieces-spec = tie.close (tie.spec cast-list-found add-list-found list-found-requires cast-result same-length returns)
+list-pieces-spec =
+    tie.close
+    (tie.spec (λ c. search needs) add-list-found list-found-requires cast-result (λ c. search needs) (λ c. search needs))

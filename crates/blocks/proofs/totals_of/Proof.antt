@@ -16,15 +16,18 @@ abbrev μ-loop : tie.MeasureT-loop
 loop-holds : tie.Need-loop-holds Inv-loop μ-loop
 loop-holds c = summed-start _ _
 
-abbrev start : tie.After-valid-of Inv-loop μ-loop → tie.Start Inv-loop μ-loop
-start w = w .before .before .before .before .before .before
+-- where a block's record is read, back to the loop
+abbrev here : tie.After-valid-of Inv-loop μ-loop → tie.At-loop Inv-loop μ-loop
+here v = v .before .before .before .before
 
--- the block that is added
-filled : (v : tie.After-valid-of Inv-loop μ-loop) → let a = start v .args in let b = v .before .before .before .before .loop .b in
+abbrev start : tie.After-valid-of Inv-loop μ-loop → tie.Start Inv-loop μ-loop
+start v = here v .before .before
+
+filled : (v : tie.After-valid-of Inv-loop μ-loop) → let a = start v .args in let b = here v .loop .b in
     (fillWord (a .blk .now) b ≤ a .h .pages) × (validWord (a .blk .now) b ≤ fillWord (a .blk .now) b)
 filled v =
     let p = start v .pre in
-    let b = v .before .before .before .before .loop .b in
+    let b = here v .loop .b in
     (p .full b (omega arith), p .valid b (omega arith))
 
 room-of-requires : tie.Need-room-of-requires Inv-loop μ-loop
@@ -33,7 +36,7 @@ room-of-requires c κs = omega (arith, filled c .0)
 add-free : tie.Need-add-free Inv-loop μ-loop
 add-free c =
     let v = c .before in
-    omega (arith, start v .pre .blocks-high, room-few (start v .args .h) (v .before .before .before .before .loop .b) (v .before .fill-of .result))
+    omega (arith, start v .pre .blocks-high, room-few (start v .args .h) (here v .loop .b) (v .before .fill-of .result))
 
 add-live : tie.Need-add-live Inv-loop μ-loop
 add-live c = omega (arith, filled (c .before) .0, filled (c .before) .1)
@@ -47,7 +50,7 @@ add-stale c = omega (arith, filled (c .before) .0, filled (c .before) .1)
 loop-again : tie.Need-loop-again Inv-loop μ-loop
 loop-again c =
     let v = c .before in
-    summed-step _ _ _ _ _ _ _ _ _ (start v .pre) (search needs) (v .before .before .before .before .loop .inv)
+    summed-step _ _ _ _ _ _ _ _ _ (start v .pre) (search needs) (here v .loop .inv)
     (v .before .fill-of .ensures) (v .valid-of .ensures) (c .room-of .ensures)
 
 returns : tie.Need-returns Inv-loop μ-loop

@@ -8,12 +8,15 @@ use borrow.Author.Needs.{needs}
 use Rattle.map.proofs.around.Statement.{statement}
 use Rattle.map.proofs.around.Tie as tie
 
+abbrev start : tie.After-starting-before → tie.Start
+start c = c .before .before .before .before
+
 -- the slots from the second place on are those that end after the range
-others : (c : tie.After-starting-before) → let a = c .before .before .before .before .args in
+others : (c : tie.After-starting-before) → let a = start c .args in
     let k = c .before .first-after2 .result in
     (k ≤ a .used) × (a .used - k ≡ endsAfter (a .l + a .n) (slotsFrom (a .ext .now) 0 (a .used)))
 others c =
-    let a = c .before .before .before .before .args in
+    let a = start c .args in
     ends-others (a .l + a .n) (a .ext .now) (a .used) _ (c .before .first-after2 .ensures)
 
 sub-after : tie.Need-sub-after

@@ -8,32 +8,13 @@ use borrow.Author.Needs.{needs}
 use Rattle.slots.proofs.row_ok.Statement.{statement}
 use Rattle.slots.proofs.row_ok.Tie as tie
 
-returns : tie.Need-returns
-returns c = says-no (λ g. omega arith)
-
-returns-2 : tie.Need-returns-2
-returns-2 c = says-no (λ g. omega arith)
-
-returns-3 : tie.Need-returns-3
-returns-3 c = says-no (λ g. omega arith)
-
-returns-4 : tie.Need-returns-4
-returns-4 c = says-no (λ g. omega arith)
-
-sub-if5 : tie.Need-sub-if5
-sub-if5 c = search needs
-
-returns-5 : tie.Need-returns-5
-returns-5 c = says-no (λ g. omega arith)
-
-rem-o : tie.Need-rem-o
-rem-o c = search needs
+abbrev start : tie.Else5 → tie.Start
+start w = w .before .before .before .before .before
 
 sub-if6 : tie.Need-sub-if6
-sub-if6 c = let s = c .before .before .before .before .before in omega (arith, mod-lt (s .args .p) (s .pre))
-
-returns-6 : tie.Need-returns-6
-returns-6 c = says-no (λ g. omega arith)
+sub-if6 c =
+    let s = start c in
+    omega (arith, mod-lt (s .args .p) (s .pre))
 
 returns-7 : tie.Need-returns-7
 returns-7 c = says-yes (record { row = record { above = omega arith; some = omega arith; inside = omega arith; small = omega arith; apart = λ a b. absurd (omega arith) }; ends = omega arith })
@@ -43,7 +24,7 @@ returns-8 c = says-yes (record { row = record { above = omega arith; some = omeg
 
 returns-9 : tie.Need-returns-9
 returns-9 c =
-    let a = c .before .before .before .before .before .before .before .before .args in
+    let a = start (c .before .before .before) .args in
     record {
       yes = λ e. record { row = record { above = omega arith; some = omega arith; inside = omega arith; small = omega arith; apart = λ x y. eqb-true (a .p % a .n) 0 e }; ends = omega arith };
       no = λ e g. eqb-false (a .p % a .n) 0 e (g .row .apart (omega arith) (omega arith));
@@ -52,16 +33,6 @@ returns-9 c =
 pub row-ok-spec : {M : Type 1} → statement M
 row-ok-spec =
     tie.close
-    (tie.spec
-    returns
-    returns-2
-    returns-3
-    returns-4
-    sub-if5
-    returns-5
-    rem-o
-    sub-if6
-    returns-6
-    returns-7
-    returns-8
-    returns-9)
+    (tie.spec (λ c. says-no (λ g. omega arith)) (λ c. says-no (λ g. omega arith)) (λ c. says-no (λ g. omega arith))
+    (λ c. says-no (λ g. omega arith)) (λ c. search needs) (λ c. says-no (λ g. omega arith)) (λ c. search needs) sub-if6
+    (λ c. says-no (λ g. omega arith)) returns-7 returns-8 returns-9)
