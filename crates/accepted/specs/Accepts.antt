@@ -12,10 +12,10 @@ use Rattle.rules.specs.Device.{Device, deviceOf, wordsOf}
 use Rattle.rules.specs.Answers.{Outcome, number}
 use Rattle.rules.specs.Calls.{Call, writeRefusal, trimRefusal, readRefusal, reclaimRefusal, refusal, counts, leaves, lists, buffer, over, refused, verdict, acceptedOn, call}
 use Rattle.rules.specs.declared.Refusal.{Refusal}
-use Rattle.laws.specs.Sane.{Shaped, Sane}
+use Rattle.laws.specs.Sound.{Shaped, SoundState}
 use Rattle.laws.specs.Shapes.{shaped-true}
-use Rattle.laws.specs.Sanes.{sound-sane}
-use Rattle.laws.specs.Kept.{Taken, taken}
+use Rattle.laws.specs.Sounds.{sound-state}
+use Rattle.laws.specs.Kept.{Taken, refusal-taken}
 use Rattle.verdicts.specs.Refusals.{told, lentRefusal, roomed, lent-none, tested-plain, call-refused, call-accepted}
 use Rattle.verdicts.specs.declared.Verdict.{Verdict}
 
@@ -42,7 +42,7 @@ reclaim-room out d = rw (length-replicate {A = ℕ} (length out) 0)
 -- nothing refuses the call
 pub record Ready (c : Call) (s : Lent) : Type 0 where
   pub shape : Shaped s
-  pub sane : Sane s
+  pub sound : SoundState s
   pub passes : verdict c s ≡ 0
   pub taken : Taken c (deviceOf s)
 
@@ -51,8 +51,8 @@ module _ (c : Call) (s : Lent) (v : Verdict) (e : told v ≡ lentRefusal s) (f :
   both = lent-none s (sym (ap told f) ∙ e)
 
   -- a state of the right shape, and a sound one
-  pub ready-state : Shaped s × Sane s
-  ready-state = let h = shaped-true s (both .0) in (h, sound-sane s h (both .1))
+  pub ready-state : Shaped s × SoundState s
+  ready-state = let h = shaped-true s (both .0) in (h, sound-state s h (both .1))
 
   plainly : verdict c s ≡ refusal c (deviceOf s)
   plainly = tested-plain (refusal c) s (both .0) (both .1)
@@ -62,7 +62,7 @@ module _ (c : Call) (s : Lent) (v : Verdict) (e : told v ≡ lentRefusal s) (f :
     pub ready : w ≡ Verdict.Accepted → Ready c s
     ready i =
         let z : refusal c (deviceOf s) ≡ 0 = sym (sym (ap told i) ∙ g ∙ h) in
-        record { shape = ready-state .0; sane = ready-state .1; passes = plainly ∙ z; taken = taken c (deviceOf s) z }
+        record { shape = ready-state .0; sound = ready-state .1; passes = plainly ∙ z; taken = refusal-taken c (deviceOf s) z }
 
     pub refuses : (t : Refusal) → w ≡ Verdict.Refused t → refused (number t) c s ≡ call c s
     refuses t i = call-refused c s t (plainly ∙ sym (sym (ap told i) ∙ g ∙ h))

@@ -11,7 +11,7 @@ use Rattle.rules.specs.Extents.{none, extent, lookup, joinable, runs}
 use Rattle.rules.specs.Device.{Device, lines, at, free, extents}
 use Rattle.rules.specs.Placement.{putsAt, placesAt, targets, puts, places, pieces}
 use Rattle.rules.specs.declared.Extent.{Extent}
-use Rattle.laws.specs.Device.{Sound}
+use Rattle.laws.specs.Device.{SoundDevice}
 use Rattle.laws.specs.Rows.{Rows}
 use Rattle.laws.specs.Runs.{runs-rows}
 use Rattle.laws.specs.Cut.{cut}
@@ -30,7 +30,7 @@ unfolding tally joinable
 same-join n l p c [] = refl
 same-join n l p c (e ∷ es) = ap (λ (x : ℕ). one (joinable n e (extent l p 1)) + x) (same-join n l p c es)
 
-module _ (l n : ℕ) (d : Device) (s : Sound d) (some : 0 < n) (enough : n ≤ free d) (inside : l + n ≤ lines d) where
+module _ (l n : ℕ) (d : Device) (s : SoundDevice d) (some : 0 < n) (enough : n ≤ free d) (inside : l + n ≤ lines d) where
   opens : Opens l (targets l n d) d
   opens = targets-open l n d s enough inside
 

@@ -61,10 +61,10 @@ module _ (l n : ℕ) (out : List ℕ) (s : Lent) (z : Ready (Call.read l n out) 
       (t .some, omega (arith, device-lines s), omega (arith, lines-pages (z .shape .sizes), pages-high (z .shape .sizes)))
 
   is-found : found l n (deviceOf s) ≡ between l (l + n) (inUse s)
-  is-found = found-words s (z .shape) (z .sane) l n (read-inside .1)
+  is-found = found-words s (z .shape) (z .sound) l n (read-inside .1)
 
   pub read-slots : 3 * s .head .used ≤ length (s .extentWords)
-  read-slots = omega (arith, z .shape .extents, z .sane .few)
+  read-slots = omega (arith, z .shape .extents, z .sound .few)
 
   pub read-fits : 3 * length (between l (l + n) (inUse s)) ≤ length out
   read-fits = let r = z .taken .room in omega (arith, ap length is-found)
@@ -74,9 +74,9 @@ module _ (l n : ℕ) (out : List ℕ) (s : Lent) (z : Ready (Call.read l n out) 
       let i = read-inside in
       omega (
         arith,
-        few-pieces (s .head .pages) (s .head .logical) l (l + n) (inUse s) (i .1) (omega arith) (z .sane .rows),
+        few-pieces (s .head .pages) (s .head .logical) l (l + n) (inUse s) (i .1) (omega arith) (z .sound .rows),
         slots-length (s .extentWords) 0 (s .head .used),
-        z .sane .few,
+        z .sound .few,
         z .shape .sizes .m-high,
       )
 

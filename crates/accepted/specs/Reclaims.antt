@@ -14,10 +14,10 @@ use Rattle.rules.specs.Answers.{said, outcome}
 use Rattle.rules.specs.Calls.{Call, counts, leaves, lists, over, call}
 use Rattle.rules.specs.declared.Head.{Head}
 use Rattle.laws.specs.Cells.{swept, block-le}
-use Rattle.laws.specs.Device.{Sound}
+use Rattle.laws.specs.Device.{SoundDevice}
 use Rattle.laws.specs.Shapes.{lines-pages, pages-high, pages-fit}
 use Rattle.laws.specs.Slots.{slots-length}
-use Rattle.laws.specs.States.{device-blocks, device-lines, device-words, extents-in-use, sane-good}
+use Rattle.laws.specs.States.{device-blocks, device-lines, device-words, extents-in-use, state-storable}
 use Rattle.laws.specs.Reclaimed.{re-blocks, re-lines}
 use Rattle.laws.specs.Gains.{Chosen, victim-chosen}
 use Rattle.laws.specs.Encoded.{reclaim-shrinks}
@@ -42,25 +42,25 @@ pub record Walkable (h : Head) (ext : List ℕ) : Type 0 where
   pub ends : Ends ext (h .used)
 
 module _ (out : List ℕ) (s : Lent) (z : Ready (Call.reclaim out) s) where
-  sound : Sound (deviceOf s)
-  sound = sane-good s (z .shape) (z .sane) .sound
+  sound : SoundDevice (deviceOf s)
+  sound = state-storable s (z .shape) (z .sound) .sound
 
   same : extents (deviceOf s) ≡ inUse s
-  same = extents-in-use s (z .shape) (z .sane)
+  same = extents-in-use s (z .shape) (z .sound)
 
   pub reclaim-walkable : Walkable (s .head) (s .extentWords)
   reclaim-walkable =
       let n = s .head .pages in
       let top = s .head .logical in
       let sizes = z .shape .sizes in
-      let few = z .sane .few in
+      let few = z .sound .few in
       record {
         slots = omega (arith, z .shape .extents);
         some = sizes .n-low;
         few = sizes .n-high;
-        room = omega (arith, block-le n (s .head .reserve) (s .head .blocks) (z .sane .kept), pages-fit sizes);
-        inside = rows-inside n top (s .extentWords) (s .head .used) (z .sane .rows);
-        ends = rows-ends n top (s .extentWords) (s .head .used) (omega (arith, lines-pages sizes, pages-high sizes)) (z .sane .rows);
+        room = omega (arith, block-le n (s .head .reserve) (s .head .blocks) (z .sound .kept), pages-fit sizes);
+        inside = rows-inside n top (s .extentWords) (s .head .used) (z .sound .rows);
+        ends = rows-ends n top (s .extentWords) (s .head .used) (omega (arith, lines-pages sizes, pages-high sizes)) (z .sound .rows);
       }
 
   module _ (v : ℕ) (is : v ≡ victim (deviceOf s)) where
@@ -75,7 +75,7 @@ module _ (out : List ℕ) (s : Lent) (z : Ready (Call.reclaim out) s) where
     other e = chosen .other (sym is ∙ e)
 
     pub reclaim-moves : (HasBlock (s .blockWords) (s .head .reserve)) × (HasBlock (s .blockWords) v)
-    reclaim-moves = (omega (arith, z .sane .kept, z .shape .blocks), omega (arith, inside, device-blocks s, z .shape .blocks))
+    reclaim-moves = (omega (arith, z .sound .kept, z .shape .blocks), omega (arith, inside, device-blocks s, z .shape .blocks))
 
     module _ (ranks : List ℕ) (r : Ranks (s .head .pages) (covered (inUse s) (s .head .pages) v) ranks) where
       ranked : Ranks (s .head .pages) (covered (extents (deviceOf s)) (s .head .pages) v) ranks
@@ -126,7 +126,7 @@ module _ (out : List ℕ) (s : Lent) (z : Ready (Call.reclaim out) s) where
           reclaim-shrinks (deviceOf s) sound (z .taken .gains),
           ap length same,
           slots-length (s .extentWords) 0 (s .head .used),
-          z .sane .few,
+          z .sound .few,
           z .shape .sizes .m-high,
         )
 
@@ -140,7 +140,7 @@ module _ (out : List ℕ) (s : Lent) (z : Ready (Call.reclaim out) s) where
     -- the block records afterwards
     given : s .blockWords ≡ records (deviceOf s .fills) 0 (valid (deviceOf s))
     unfolding wordsOf
-    given = ap (λ (t : Lent). t .blockWords) (sym (device-words s (z .shape) (z .sane)))
+    given = ap (λ (t : Lent). t .blockWords) (sym (device-words s (z .shape) (z .sound)))
 
     blk-is : (blk : List ℕ) → blk ≡ emptied (s .head .reserve) v (s .blockWords) → blk ≡ records (reclaimedAt v (deviceOf s) .fills) 0 (valid (reclaimedAt v (deviceOf s)))
     unfolding deviceOf

@@ -19,7 +19,7 @@ use Rattle.rules.specs.Calls.{Call, counts, leaves, lists, over}
 use Rattle.rules.specs.declared.Head.{Head}
 use Rattle.rules.specs.declared.Last.{Last}
 use Rattle.laws.specs.Sums.{sum-zero, count-same}
-use Rattle.laws.specs.Sane.{Shaped, Sane}
+use Rattle.laws.specs.Sound.{Shaped, SoundState, Storable}
 use Rattle.laws.specs.Shapes.{lines-pages, pages-high}
 use Rattle.laws.specs.Cut.{cut}
 use Rattle.laws.specs.Device.{none-block}
@@ -28,9 +28,9 @@ use Rattle.laws.specs.Valid.{trim-valid}
 use Rattle.laws.specs.Encoded.{trim-extents}
 use Rattle.laws.specs.Tallies.{inRange, total, total-slots, in-range-slots, in-slots}
 use Rattle.laws.specs.Records.{words-records}
-use Rattle.laws.specs.States.{device-lines, device-blocks, device-at, sane-good, extents-in-use, valid-in-use}
+use Rattle.laws.specs.States.{device-lines, device-blocks, device-at, state-storable, extents-in-use, valid-in-use}
 use Rattle.map.specs.Padded.{padded, Becomes, zeros-holds, padded-words}
-use Rattle.map.specs.Sound.{Sound}
+use Rattle.map.specs.Sound.{SoundMap}
 use Rattle.cutting.specs.Cutting.{Cuttable}
 use Rattle.verdicts.specs.Reading.{rows-sound}
 use Rattle.striking.specs.Lowered.{Lowered, Lowerable, total-enough}
@@ -39,7 +39,7 @@ use Rattle.accepted.specs.Accepts.{Ready}
 -- lines l, l + 1, .., n of them, can be cut out of the state
 pub record Cut (l n : ℕ) (s : Lent) : Type 0 where
   pub shape : Shaped s
-  pub sane : Sane s
+  pub sound : SoundState s
   pub some : 0 < n
   pub inside : l + n ≤ s .head .logical
   pub nodes : length (extents (trimmed 0 l n (deviceOf s))) ≤ s .head .slots
@@ -57,28 +57,28 @@ module _ (l n : ℕ) (s : Lent) (z : Cut l n s) where
   abbrev d : Device
   d = deviceOf s
 
-  good : Rattle.laws.specs.Sane.Good (deviceOf s)
-  good = sane-good s (z .shape) (z .sane)
+  storable : Storable (deviceOf s)
+  storable = state-storable s (z .shape) (z .sound)
 
   pub cut-line : l + n ≤ 262144
   cut-line = omega (arith, z .inside, lines-pages (z .shape .sizes), pages-high (z .shape .sizes))
 
   pub cut-slots : 3 * s .head .used ≤ length (s .extentWords)
-  cut-slots = omega (arith, z .shape .extents, z .sane .few)
+  cut-slots = omega (arith, z .shape .extents, z .sound .few)
 
-  cut-sound : Sound (inUse s)
-  cut-sound = rows-sound s (z .shape) (z .sane)
+  cut-sound : SoundMap (inUse s)
+  cut-sound = rows-sound s (z .shape) (z .sound)
 
   -- ---- the extents
 
   pub cut-extents : cut l (l + n) (inUse s) ≡ extents (holed l n s)
   cut-extents =
-      ap (cut l (l + n)) (sym (extents-in-use s (z .shape) (z .sane)))
-      ∙ trim-extents 0 l n (deviceOf s) (good .sound) (z .some) (omega (arith, z .inside, device-lines s))
+      ap (cut l (l + n)) (sym (extents-in-use s (z .shape) (z .sound)))
+      ∙ trim-extents 0 l n (deviceOf s) (storable .sound) (z .some) (omega (arith, z .inside, device-lines s))
 
   pub cuttable : Cuttable (s .extentWords) (s .head .used) l (l + n)
   cuttable = record {
-    held = zeros-holds (s .extentWords) (s .head .used) cut-slots (z .sane .zeros);
+    held = zeros-holds (s .extentWords) (s .head .used) cut-slots (z .sound .zeros);
     sound = cut-sound;
     range = omega (arith, z .some);
     room = omega (arith, ap length cut-extents, z .nodes, z .shape .extents);
@@ -96,14 +96,14 @@ module _ (l n : ℕ) (s : Lent) (z : Cut l n s) where
 
   not-none : (c : ℕ) → c < s .head .blocks → none / s .head .pages ≡ c → ⊥
   unfolding deviceOf
-  not-none c h = none-block (deviceOf s) (good .sound) c (omega (arith, device-blocks s))
+  not-none c h = none-block (deviceOf s) (storable .sound) c (omega (arith, device-blocks s))
 
   -- the lines of the range that lie in block c
   lost : (c : ℕ) → c < s .head .blocks → count n (λ i. eqb (at (deviceOf s) (l + i) / s .head .pages) c) ≡ total (inRange (s .head .pages) c l (l + n)) (inUse s)
   lost c h =
       count-same n (λ i. eqb (at (deviceOf s) (l + i) / s .head .pages) c) (λ i. eqb (lookup (inUse s) (l + i) / s .head .pages) c)
       (λ i p. ap (λ (x : ℕ). eqb (x / s .head .pages) c) (device-at s (l + i) (omega (arith, z .inside))))
-      ∙ in-range-slots (s .head .pages) (s .head .logical) c (not-none c h) (s .extentWords) (s .head .used) 0 none (z .sane .rows) l n
+      ∙ in-range-slots (s .head .pages) (s .head .logical) c (not-none c h) (s .extentWords) (s .head .used) 0 none (z .sound .rows) l n
       ∙ sym (total-slots (inRange (s .head .pages) c l (l + n)) (s .extentWords) (s .head .used))
 
   held : (c : ℕ) → c < s .head .blocks → total (inRange (s .head .pages) c 0 (s .head .logical)) (inUse s) ≡ validOf s c
@@ -111,11 +111,11 @@ module _ (l n : ℕ) (s : Lent) (z : Cut l n s) where
       let top : s .head .logical ≡ 0 + s .head .logical = omega arith in
       total-slots (inRange (s .head .pages) c 0 (s .head .logical)) (s .extentWords) (s .head .used)
       ∙ ap (λ (x : ℕ). sum (s .head .used) (λ i. inRange (s .head .pages) c 0 x (slot (s .extentWords) i))) top
-      ∙ sym (in-range-slots (s .head .pages) (s .head .logical) c (not-none c h) (s .extentWords) (s .head .used) 0 none (z .sane .rows) 0 (s .head .logical))
+      ∙ sym (in-range-slots (s .head .pages) (s .head .logical) c (not-none c h) (s .extentWords) (s .head .used) 0 none (z .sound .rows) 0 (s .head .logical))
       ∙ count-same (s .head .logical) (λ i. eqb (lookup (inUse s) (0 + i) / s .head .pages) c) (λ i. eqb (lookup (inUse s) i / s .head .pages) c)
       (λ i p. let e : 0 + i ≡ i = omega arith in ap (λ (x : ℕ). eqb (lookup (inUse s) x / s .head .pages) c) e)
-      ∙ in-slots (s .head .pages) (s .head .logical) c (not-none c h) (s .extentWords) (s .head .used) (z .sane .rows)
-      ∙ sym (z .sane .counts c h)
+      ∙ in-slots (s .head .pages) (s .head .logical) c (not-none c h) (s .extentWords) (s .head .used) (z .sound .rows)
+      ∙ sym (z .sound .counts c h)
 
   -- no slot lies in a block that is not there
   nowhere : (c : ℕ) → s .head .blocks ≤ c → total (inRange (s .head .pages) c l (l + n)) (inUse s) ≡ 0
@@ -123,14 +123,14 @@ module _ (l n : ℕ) (s : Lent) (z : Cut l n s) where
   nowhere c h =
       total-slots (inRange (s .head .pages) c l (l + n)) (s .extentWords) (s .head .used)
       ∙ sum-zero (s .head .used) (λ i. inRange (s .head .pages) c l (l + n) (slot (s .extentWords) i))
-      (λ i p. rw (ne-eqb (slot (s .extentWords) i .physical / s .head .pages) c (λ g. omega (arith, z .sane .inside i p))))
+      (λ i p. rw (ne-eqb (slot (s .extentWords) i .physical / s .head .pages) c (λ g. omega (arith, z .sound .inside i p))))
 
   pub lowerable : Lowerable (s .extentWords) (s .head .used) (s .head .pages) l (l + n) (s .blockWords)
   lowerable = record {
     within = cut-slots;
     sound = cut-sound;
     some = z .shape .sizes .n-low;
-    inside = λ i p. omega (arith, z .sane .inside i p, z .shape .blocks);
+    inside = λ i p. omega (arith, z .sound .inside i p, z .shape .blocks);
     enough = λ b. by-cases (decLt b (s .head .blocks))
         (λ h. omega (arith, total-enough (s .head .pages) b l (l + n) (s .head .logical) (inUse s) (z .inside), held b h))
         (λ h. omega (arith, nowhere b (omega arith)));
@@ -148,9 +148,9 @@ module _ (l n : ℕ) (s : Lent) (z : Cut l n s) where
       left b h =
           omega (
             arith,
-            trim-valid 0 l n (deviceOf s) (good .sound) (omega (arith, z .inside, device-lines s)) b (omega (arith, device-blocks s)),
+            trim-valid 0 l n (deviceOf s) (storable .sound) (omega (arith, z .inside, device-lines s)) b (omega (arith, device-blocks s)),
             lost b h,
-            valid-in-use s (z .shape) (z .sane) b h,
+            valid-in-use s (z .shape) (z .sound) b h,
             w .valids b,
           )
 
@@ -172,7 +172,7 @@ module _ (k l n : ℕ) (s : Lent) (z : Ready (Call.trim k l n) s) where
   pub trim-cut : Cut l n s
   trim-cut = record {
     shape = z .shape;
-    sane = z .sane;
+    sound = z .sound;
     some = z .taken .range .some;
     inside = let i = z .taken .range .inside in omega (arith, device-lines s);
     nodes = omega (arith, z .taken .nodes, same-slots, ap length same-extents);

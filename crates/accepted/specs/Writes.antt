@@ -16,8 +16,8 @@ use Rattle.rules.specs.Calls.{Call, counts, leaves, lists, over}
 use Rattle.rules.specs.declared.Head.{Head}
 use Rattle.rules.specs.declared.Last.{Last}
 use Rattle.rules.specs.declared.Extent.{Extent}
-use Rattle.laws.specs.Device.{Sound}
-use Rattle.laws.specs.Sane.{Good}
+use Rattle.laws.specs.Device.{SoundDevice}
+use Rattle.laws.specs.Sound.{Storable}
 use Rattle.laws.specs.Rows.{Rows, rows-first}
 use Rattle.laws.specs.Shapes.{lines-pages, pages-high}
 use Rattle.laws.specs.Cut.{cut, cut-rows}
@@ -30,14 +30,14 @@ use Rattle.laws.specs.Balance.{valid-stale}
 use Rattle.laws.specs.Placed.{Puts, puts-slots, puts-pages, puts-reserve}
 use Rattle.laws.specs.Order.{puts-all}
 use Rattle.laws.specs.Records.{records-length, records-fill, records-valid, words-records}
-use Rattle.laws.specs.Spread.{startOf}
+use Rattle.laws.specs.Spread.{startBlock}
 use Rattle.laws.specs.Growth.{firstPlace, pieces-begin}
 use Rattle.laws.specs.Alike.{Alike, alike-free, alike-pieces, over-rise}
-use Rattle.laws.specs.States.{device-lines, device-blocks, device-fill, extents-in-use, sane-good}
+use Rattle.laws.specs.States.{device-lines, device-blocks, device-fill, extents-in-use, state-storable}
 use Rattle.map.specs.Padded.{padded, padded-words, Becomes, became-length, became-slots, became-holds}
 use Rattle.putting.specs.Pieces.{putIn, Puttable}
 use Rattle.placing.specs.Bare.{bare, fillsOf, bare-alike}
-use Rattle.placing.specs.Place.{Placed, placed-alike, Ready as Placeable}
+use Rattle.placing.specs.Place.{Placed, placed-alike, Placeable}
 use Rattle.verdicts.specs.Trimming.{trim-nodes}
 use Rattle.writable.specs.Meeting.{Writable, Meets, piecesOf, grows}
 use Rattle.writable.specs.declared.Meeting.{Meeting}
@@ -49,15 +49,15 @@ module _ (k l n : ℕ) (out : List ℕ) (s : Lent) (z : Ready (Call.write k l n 
   abbrev d : Device
   d = deviceOf s
 
-  good : Good (deviceOf s)
-  good = sane-good s (z .shape) (z .sane)
+  storable : Storable (deviceOf s)
+  storable = state-storable s (z .shape) (z .sound)
 
   inside : l + n ≤ s .head .logical
   inside = let i = z .taken .range .inside in omega (arith, device-lines s)
 
-  pub writes : Writable l n s
+  pub write-writable : Writable l n s
   unfolding deviceOf
-  writes = record { shape = z .shape; sane = z .sane; some = z .taken .range .some; block = z .taken .block; inside = inside; enough = z .taken .pages }
+  write-writable = record { shape = z .shape; sound = z .sound; some = z .taken .range .some; block = z .taken .block; inside = inside; enough = z .taken .pages }
 
   slots-same : puts l n (deviceOf s) .slots ≡ s .head .slots
   unfolding puts deviceOf
@@ -65,7 +65,7 @@ module _ (k l n : ℕ) (out : List ℕ) (s : Lent) (z : Ready (Call.write k l n 
 
   some-pieces : 1 ≤ piecesOf l n s
   some-pieces =
-      let b = pieces-begin l n (deviceOf s) (good .sound) (z .taken .pages) (z .taken .range .inside) (z .taken .range .some) in
+      let b = pieces-begin l n (deviceOf s) (storable .sound) (z .taken .pages) (z .taken .range .inside) (z .taken .range .some) in
       omega (arith, ap length (b .is))
 
   one-le : (b : Bool) → one b ≤ 1
@@ -78,13 +78,13 @@ module _ (k l n : ℕ) (out : List ℕ) (s : Lent) (z : Ready (Call.write k l n 
     pub write-cut : Cut l n s
     write-cut = record {
       shape = z .shape;
-      sane = z .sane;
+      sound = z .sound;
       some = z .taken .range .some;
       inside = inside;
       nodes = omega (
         arith,
-        trim-nodes s (z .shape) (z .sane) 0 l n (z .taken .range .some) inside,
-        grows l n s writes m e,
+        trim-nodes s (z .shape) (z .sound) 0 l n (z .taken .range .some) inside,
+        grows l n s write-writable m e,
         e .sides .before,
         e .sides .after,
         some-pieces,
@@ -97,15 +97,15 @@ module _ (k l n : ℕ) (out : List ℕ) (s : Lent) (z : Ready (Call.write k l n 
     module _ (u : ℕ) (ext blk : List ℕ) (w : Holed l n s u ext blk) where
       held-used : u ≡ m .sides .before + m .sides .after
       held-used =
-          w .map .used ∙ cut-length (s .head .pages) (s .head .logical) l (l + n) (inUse s) (z .sane .rows) ∙ omega (arith, e .sides .before, e .sides .after)
+          w .map .used ∙ cut-length (s .head .pages) (s .head .logical) l (l + n) (inUse s) (z .sound .rows) ∙ omega (arith, e .sides .before, e .sides .after)
 
       ext-length : length ext ≡ length (s .extentWords)
       ext-length =
           became-length (length (s .extentWords)) (cut l (l + n) (inUse s)) ext u (w .map .is) (sym (w .map .used))
-          (omega (arith, held-used, grows l n s writes m e, some-pieces, one-le (m .joined), z .taken .nodes, slots-same, z .shape .extents))
+          (omega (arith, held-used, grows l n s write-writable m e, some-pieces, one-le (m .joined), z .taken .nodes, slots-same, z .shape .extents))
 
       small : 3 * u ≤ length (s .extentWords)
-      small = omega (arith, held-used, grows l n s writes m e, some-pieces, one-le (m .joined), z .taken .nodes, slots-same, z .shape .extents)
+      small = omega (arith, held-used, grows l n s write-writable m e, some-pieces, one-le (m .joined), z .taken .nodes, slots-same, z .shape .extents)
 
       -- ---- the pages placed
 
@@ -122,8 +122,8 @@ module _ (k l n : ℕ) (out : List ℕ) (s : Lent) (z : Ready (Call.write k l n 
       unfolding deviceOf
       alike = bare-alike (s .head .blocks) (s .head .pages) (s .head .reserve) blk (s .spare) (deviceOf s) refl fills-are refl refl
 
-      trim-sound : Sound (holed l n s)
-      trim-sound = trimmed-sound 0 l n (deviceOf s) (good .sound) (z .taken .range .inside)
+      trim-sound : SoundDevice (holed l n s)
+      trim-sound = trimmed-sound 0 l n (deviceOf s) (storable .sound) (z .taken .range .inside)
 
       same-blocks : blocks (holed l n s) ≡ s .head .blocks
       unfolding trimmed withTable
@@ -152,7 +152,7 @@ module _ (k l n : ℕ) (out : List ℕ) (s : Lent) (z : Ready (Call.write k l n 
         pages-few = z .shape .sizes .n-high;
         valid = λ b p. omega (arith, valid-at b p, fill-at b, valid-stale (holed l n s) trim-sound b (omega (arith, same-blocks)));
         lines = omega (arith, inside, lines-pages (z .shape .sizes), pages-high (z .shape .sizes));
-        start = e .from ∙ (unfold deviceOf in ap (λ (fs : List ℕ). startOf (s .head .pages) (s .head .reserve) fs n) (sym fills-are));
+        start = e .from ∙ (unfold deviceOf in ap (λ (fs : List ℕ). startBlock (s .head .pages) (s .head .reserve) fs n) (sym fills-are));
         room = omega (arith, alike-free (bare (s .head .blocks) (s .head .pages) (s .head .reserve) blk (s .spare)) (deviceOf s) alike, z .taken .pages);
         slots = omega (arith, ap length (alike-pieces l n (bare (s .head .blocks) (s .head .pages) (s .head .reserve) blk (s .spare)) (deviceOf s) alike), z .taken .room);
       }
@@ -190,14 +190,14 @@ module _ (k l n : ℕ) (out : List ℕ) (s : Lent) (z : Ready (Call.write k l n 
         short : (i : ℕ) → i < u → slot ext i .count ≤ 256
         short i q =
             let rows = subst (λ (es : List Extent). Rows (s .head .pages) 0 none (s .head .logical) es) (sym cut-slots)
-            (cut-rows (s .head .pages) (s .head .logical) l (l + n) (inUse s) (omega (arith, z .taken .range .some)) inside (z .sane .rows)) in
+            (cut-rows (s .head .pages) (s .head .logical) l (l + n) (inUse s) (omega (arith, z .taken .range .some)) inside (z .sound .rows)) in
             omega (arith, rows-ranked (s .head .pages) (s .head .logical) ext u rows .inside i q, z .shape .sizes .n-high)
 
         short-piece : slot out′ 0 .count ≤ 256
         short-piece =
             let rows = subst (λ (es : List Extent). Rows (s .head .pages) 0 none (l + n) es) (sym listed)
             (rows-first (s .head .pages) (l + n) (pieces l n (deviceOf s)) l none 0 (omega arith)
-            (unfold deviceOf in piece-rows l n (deviceOf s) (good .sound) (z .taken .range .some) (z .taken .pages) (z .taken .range .inside))) in
+            (unfold deviceOf in piece-rows l n (deviceOf s) (storable .sound) (z .taken .range .some) (z .taken .pages) (z .taken .range .inside))) in
             omega (arith, rows-ranked (s .head .pages) (l + n) out′ r rows .inside 0 (omega (arith, placed .many, some-pieces)), z .shape .sizes .n-high)
 
         joins-some : m .joined ≡ true → 1 ≤ m .sides .before
@@ -207,9 +207,9 @@ module _ (k l n : ℕ) (out : List ℕ) (s : Lent) (z : Ready (Call.write k l n 
             go zero f =
                 absurd (omega (
                   arith,
-                  e .joined writes,
+                  e .joined write-writable,
                   ap one t,
-                  left-none (s .head .pages) (s .head .logical) l (extent l (firstPlace l n (deviceOf s)) 1) (inUse s) 0 none (z .sane .rows) refl (sym (e .sides .before) ∙ f),
+                  left-none (s .head .pages) (s .head .logical) l (extent l (firstPlace l n (deviceOf s)) 1) (inUse s) 0 none (z .sound .rows) refl (sym (e .sides .before) ∙ f),
                 ))
             go (suc b) f = omega arith
 
@@ -219,18 +219,18 @@ module _ (k l n : ℕ) (out : List ℕ) (s : Lent) (z : Ready (Call.write k l n 
           within = omega (arith, held-used);
           some = omega (arith, placed .many, some-pieces);
           fits = out-length;
-          room = omega (arith, held-used, placed .many, grows l n s writes m e, z .taken .nodes, slots-same, ext-length, z .shape .extents);
+          room = omega (arith, held-used, placed .many, grows l n s write-writable m e, z .taken .nodes, slots-same, ext-length, z .shape .extents);
           joins = λ t. let a = joins-some t in (a, omega (arith, short (m .sides .before - 1) (omega (arith, held-used)), short-piece));
         }
 
         module _ (ext′ : List ℕ) (v : ℕ) (q : Becomes (length ext) (putIn (m .sides .before) (m .joined) (slotsFrom out′ 0 r) (slotsFrom ext 0 u)) ext′ v) where
           after : putIn (m .sides .before) (m .joined) (slotsFrom out′ 0 r) (slotsFrom ext 0 u) ≡ extents (puts l n (deviceOf s))
           after =
-              let es = extents-in-use s (z .shape) (z .sane) in
+              let es = extents-in-use s (z .shape) (z .sound) in
               ap₂ (λ (ps cs : List Extent). putIn (m .sides .before) (m .joined) ps cs) listed (cut-slots ∙ ap (cut l (l + n)) (sym es))
-              ∙ put-extents l n (deviceOf s) (good .sound) (z .taken .range .some) (z .taken .pages) (z .taken .range .inside) (m .sides .before) (m .joined)
+              ∙ put-extents l n (deviceOf s) (storable .sound) (z .taken .range .some) (z .taken .pages) (z .taken .range .inside) (m .sides .before) (m .joined)
               (e .sides .before ∙ ap (startsBefore l) (sym es))
-              (e .joined writes ∙ (unfold deviceOf in ap (leftJoin (s .head .pages) (extent l (firstPlace l n (deviceOf s)) 1)) (sym es)))
+              (e .joined write-writable ∙ (unfold deviceOf in ap (leftJoin (s .head .pages) (extent l (firstPlace l n (deviceOf s)) 1)) (sym es)))
 
           -- ---- all of it
 
@@ -246,7 +246,7 @@ module _ (k l n : ℕ) (out : List ℕ) (s : Lent) (z : Ready (Call.write k l n 
           valid-is b h =
               omega (
                 arith,
-                over-rise 0 l n (deviceOf s) (good .sound) (z .taken .pages) (z .taken .range .inside) b (omega (arith, device-blocks s)),
+                over-rise 0 l n (deviceOf s) (storable .sound) (z .taken .pages) (z .taken .range .inside) b (omega (arith, device-blocks s)),
                 placed .valid b (omega (arith, device-blocks s)),
                 valid-at b h,
               )
@@ -270,7 +270,7 @@ module _ (k l n : ℕ) (out : List ℕ) (s : Lent) (z : Ready (Call.write k l n 
           }
 
           put : Puts (deviceOf s) (puts l n (deviceOf s)) n
-          put = puts-all l n (deviceOf s) (good .sound) (z .taken .pages) (z .taken .range .inside)
+          put = puts-all l n (deviceOf s) (storable .sound) (z .taken .pages) (z .taken .range .inside)
 
           pages-same : s .head .pages ≡ puts l n (deviceOf s) .pages
           unfolding puts deviceOf

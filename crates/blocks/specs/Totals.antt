@@ -16,9 +16,9 @@ use Rattle.rules.specs.Lent.{Lent, fillOf, validOf}
 use Rattle.rules.specs.Device.{blocks, room, free, live, stale, staleIn, valid, deviceOf}
 use Rattle.rules.specs.declared.Head.{Head}
 use Rattle.laws.specs.Sums.{sum-same}
-use Rattle.laws.specs.Sane.{Shaped, Sane}
+use Rattle.laws.specs.Sound.{Shaped, SoundState}
 use Rattle.laws.specs.Balance.{live-valid, valid-stale}
-use Rattle.laws.specs.States.{device-blocks, device-fill, sane-good, valid-in-use}
+use Rattle.laws.specs.States.{device-blocks, device-fill, state-storable, valid-in-use}
 use Rattle.blocks.specs.declared.Totals.{Totals}
 
 -- what a sound state gives of its block records
@@ -33,14 +33,14 @@ pub record Filled (h : Head) (blk : List ℕ) : Type 0 where
 abbrev pub roomLeft : Head → ℕ → ℕ → ℕ
 roomLeft h b fill = cond (eqb b (h .reserve)) 0 (h .pages - fill)
 
-abbrev pub roomAt : Head → List ℕ → ℕ → ℕ
-roomAt h blk b = roomLeft h b (fillWord blk b)
+abbrev pub roomWords : Head → List ℕ → ℕ → ℕ
+roomWords h blk b = roomLeft h b (fillWord blk b)
 
 abbrev pub staleAt : List ℕ → ℕ → ℕ
 staleAt blk b = fillWord blk b - validWord blk b
 
 pub record Totalled (h : Head) (blk : List ℕ) (t : Totals) : Type 0 where
-  pub free : t .free ≡ sum (h .blocks) (roomAt h blk)
+  pub free : t .free ≡ sum (h .blocks) (roomWords h blk)
   pub live : t .live ≡ sum (h .blocks) (validWord blk)
   pub stale : t .stale ≡ sum (h .blocks) (staleAt blk)
 
@@ -57,7 +57,7 @@ room-few h b f = by-cases (ℕ-discrete b (h .reserve)) (λ e. omega (arith, roo
 -- the loop: the sums over the blocks before b
 pub record Summed (h : Head) (blk : List ℕ) (b free live stale : ℕ) : Type 0 where
   pub within : b ≤ h .blocks
-  pub free-is : free ≡ sum b (roomAt h blk)
+  pub free-is : free ≡ sum b (roomWords h blk)
   pub live-is : live ≡ sum b (validWord blk)
   pub stale-is : stale ≡ sum b (staleAt blk)
   pub free-high : free ≤ 256 * b
@@ -85,7 +85,7 @@ module _ (h : Head) (blk : List ℕ) where
       → f ≡ fillWord blk b → v ≡ validWord blk b → room ≡ roomLeft h b f → Summed h blk (b + 1) (free + room) (live + v) (stale + (f - v))
   summed-step b free live stale f v room g s p ef ev er = record {
     within = omega arith;
-    free-is = omega (arith, p .free-is, er, ap (roomLeft h b) ef, sum-next b (roomAt h blk));
+    free-is = omega (arith, p .free-is, er, ap (roomLeft h b) ef, sum-next b (roomWords h blk));
     live-is = omega (arith, p .live-is, sum-next b (validWord blk));
     stale-is = omega (arith, p .stale-is, sum-next b (staleAt blk));
     free-high = omega (arith, p .free-high, er, room-few h b f, g .pages-high);
@@ -97,24 +97,24 @@ module _ (h : Head) (blk : List ℕ) where
   summed-end b free live stale p s =
       let e : b ≡ h .blocks = omega arith in
       record {
-        free = p .free-is ∙ ap (λ (k : ℕ). sum k (roomAt h blk)) e;
+        free = p .free-is ∙ ap (λ (k : ℕ). sum k (roomWords h blk)) e;
         live = p .live-is ∙ ap (λ (k : ℕ). sum k (validWord blk)) e;
         stale = p .stale-is ∙ ap (λ (k : ℕ). sum k (staleAt blk)) e;
       }
 
 -- ---- of a sound state: they are the counts of its device
 
-module _ (s : Lent) (z : Shaped s) (f : Sane s) where
+module _ (s : Lent) (z : Shaped s) (f : SoundState s) where
   inside : (b : ℕ) → b < blocks (deviceOf s) → b < s .head .blocks
   inside b t = omega (arith, device-blocks s)
 
   -- a block's pages are valid, stale or erased
   parted : (b : ℕ) → b < s .head .blocks → validOf s b + staleIn (deviceOf s) b ≡ fillOf s b
   parted b t =
-      omega (arith, valid-stale (deviceOf s) (sane-good s z f .sound) b (omega (arith, device-blocks s)), valid-in-use s z f b t, device-fill s b t)
+      omega (arith, valid-stale (deviceOf s) (state-storable s z f .sound) b (omega (arith, device-blocks s)), valid-in-use s z f b t, device-fill s b t)
 
-  pub sane-filled : Filled (s .head) (s .blockWords)
-  sane-filled = record {
+  pub state-filled : Filled (s .head) (s .blockWords)
+  state-filled = record {
     records = z .blocks;
     blocks-high = z .sizes .b-high;
     pages-high = z .sizes .n-high;
@@ -122,15 +122,15 @@ module _ (s : Lent) (z : Shaped s) (f : Sane s) where
     valid = λ b t. omega (arith, parted b t);
   }
 
-  pub device-free : free (deviceOf s) ≡ sum (s .head .blocks) (roomAt (s .head) (s .blockWords))
+  pub device-free : free (deviceOf s) ≡ sum (s .head .blocks) (roomWords (s .head) (s .blockWords))
   unfolding free room deviceOf
   device-free =
-      sum-same (blocks (deviceOf s)) (room (deviceOf s)) (roomAt (s .head) (s .blockWords)) (λ b t. ap (roomLeft (s .head) b) (device-fill s b (inside b t)))
-      ∙ ap (λ (k : ℕ). sum k (roomAt (s .head) (s .blockWords))) (device-blocks s)
+      sum-same (blocks (deviceOf s)) (room (deviceOf s)) (roomWords (s .head) (s .blockWords)) (λ b t. ap (roomLeft (s .head) b) (device-fill s b (inside b t)))
+      ∙ ap (λ (k : ℕ). sum k (roomWords (s .head) (s .blockWords))) (device-blocks s)
 
   pub device-live : live (deviceOf s) ≡ sum (s .head .blocks) (validWord (s .blockWords))
   device-live =
-      live-valid (deviceOf s) (sane-good s z f .sound)
+      live-valid (deviceOf s) (state-storable s z f .sound)
       ∙ sum-same (blocks (deviceOf s)) (valid (deviceOf s)) (validWord (s .blockWords)) (λ b t. valid-in-use s z f b (inside b t))
       ∙ ap (λ (k : ℕ). sum k (validWord (s .blockWords))) (device-blocks s)
 

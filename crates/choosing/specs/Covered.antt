@@ -14,35 +14,35 @@ use Rattle.laws.specs.Bools.{cases, and-split, and-join}
 use Rattle.laws.specs.Rows.{div-shift}
 
 -- page p is one of the extent's
-unfoldable pub holds : Extent → ℕ → Bool
-holds e p = leb (e .physical) p && ltb p (e .physical + e .count)
+unfoldable pub hasPage : Extent → ℕ → Bool
+hasPage e p = leb (e .physical) p && ltb p (e .physical + e .count)
 
 -- an extent of the list holds page o of block v
 unfoldable pub covered : List Extent → ℕ → ℕ → ℕ → Bool
 covered [] n v o = false
-covered (e ∷ es) n v o = holds e (v * n + o) || covered es n v o
+covered (e ∷ es) n v o = hasPage e (v * n + o) || covered es n v o
 
 module _ (e : Extent) (p : ℕ) where
-  pub holds-true : e .physical ≤ p → p < e .physical + e .count → holds e p ≡ true
-  unfolding holds
+  pub holds-true : e .physical ≤ p → p < e .physical + e .count → hasPage e p ≡ true
+  unfolding hasPage
   holds-true h t = and-join _ _ (le-leb (e .physical) p h) (lt-ltb p (e .physical + e .count) t)
 
-  pub holds-low : p < e .physical → holds e p ≡ false
-  unfolding holds
+  pub holds-low : p < e .physical → hasPage e p ≡ false
+  unfolding hasPage
   holds-low h = rw (lt-leb (e .physical) p h)
 
-  pub holds-high : e .physical + e .count ≤ p → holds e p ≡ false
-  unfolding holds
+  pub holds-high : e .physical + e .count ≤ p → hasPage e p ≡ false
+  unfolding hasPage
   holds-high h = rw (le-leb (e .physical) p (omega arith), le-ltb p (e .physical + e .count) h)
 
-  pub true-holds : holds e p ≡ true → (e .physical ≤ p) × (p < e .physical + e .count)
-  unfolding holds
+  pub true-holds : hasPage e p ≡ true → (e .physical ≤ p) × (p < e .physical + e .count)
+  unfolding hasPage
   true-holds h =
       let s = and-split _ _ h in
       (leb-true (e .physical) p (s .0), ltb-true p (e .physical + e .count) (s .1))
 
 -- an extent that lies in its block holds pages of that block only
-pub holds-block : (n v o : ℕ) (e : Extent) → o < n → e .physical % n + e .count ≤ n → (e .physical / n ≡ v → ⊥) → holds e (v * n + o) ≡ false
+pub holds-block : (n v o : ℕ) (e : Extent) → o < n → e .physical % n + e .count ≤ n → (e .physical / n ≡ v → ⊥) → hasPage e (v * n + o) ≡ false
 holds-block n v o e h s f =
     by-cases (decLt (v * n + o) (e .physical))
     (λ a. holds-low e (v * n + o) a)
@@ -53,11 +53,11 @@ holds-block n v o e h s f =
     (λ b. holds-high e (v * n + o) (omega arith)))
 
 -- one extent more, at the end
-pub covered-more : (es : List Extent) (e : Extent) (n v o : ℕ) → covered (es ++ e ∷ []) n v o ≡ (covered es n v o || holds e (v * n + o))
+pub covered-more : (es : List Extent) (e : Extent) (n v o : ℕ) → covered (es ++ e ∷ []) n v o ≡ (covered es n v o || hasPage e (v * n + o))
 unfolding covered
-covered-more [] e n v o = or-none (holds e (v * n + o))
+covered-more [] e n v o = or-none (hasPage e (v * n + o))
   where
     or-none : (b : Bool) → (b || false) ≡ b
     or-none true = refl
     or-none false = refl
-covered-more (x ∷ es) e n v o = cases (holds x (v * n + o)) (λ t. rw t) (λ t. rw t (covered-more es e n v o))
+covered-more (x ∷ es) e n v o = cases (hasPage x (v * n + o)) (λ t. rw t) (λ t. rw t (covered-more es e n v o))

@@ -22,7 +22,7 @@ use Rattle.laws.specs.Cells.{sets-in, sets-other}
 use Rattle.laws.specs.Slots.{slots-more}
 use Rattle.words.specs.Store.{stored, stored-next, stored-read, stored-length}
 use Rattle.choosing.specs.Part.{part-filled}
-use Rattle.choosing.specs.Covered.{holds, covered, holds-true, holds-low, holds-high, holds-block, covered-more}
+use Rattle.choosing.specs.Covered.{hasPage, covered, holds-true, holds-low, holds-high, holds-block, covered-more}
 
 -- the ranks of the offsets up to n, where live says which are live
 pub record Ranks (n : ℕ) (live : ℕ → Bool) (ranks : List ℕ) : Type 0 where
@@ -54,21 +54,21 @@ abbrev pub ones : ℕ → List ℕ
 ones k = replicate k 1
 
 -- the offsets of an extent marked, where it lies in block v
-unfoldable pub marked : Extent → ℕ → ℕ → List ℕ → List ℕ
-marked e n v ms = cond (eqb (e .physical / n) v) (sets ms (e .physical % n) (ones (e .count))) ms
+unfoldable pub markedIn : Extent → ℕ → ℕ → List ℕ → List ℕ
+markedIn e n v ms = cond (eqb (e .physical / n) v) (sets ms (e .physical % n) (ones (e .count))) ms
 
 module _ (e : Extent) (n v : ℕ) (ms : List ℕ) where
-  pub marked-here : e .physical / n ≡ v → marked e n v ms ≡ sets ms (e .physical % n) (ones (e .count))
-  unfolding marked
+  pub marked-here : e .physical / n ≡ v → markedIn e n v ms ≡ sets ms (e .physical % n) (ones (e .count))
+  unfolding markedIn
   marked-here h = rw (eq-eqb (e .physical / n) v h)
 
-  pub marked-else : (e .physical / n ≡ v → ⊥) → marked e n v ms ≡ ms
-  unfolding marked
+  pub marked-else : (e .physical / n ≡ v → ⊥) → markedIn e n v ms ≡ ms
+  unfolding markedIn
   marked-else h = rw (ne-eqb (e .physical / n) v h)
 
   -- a mark is put where the extent holds the page
   pub marked-at : e .physical % n + e .count ≤ n → n ≤ length ms → (o : ℕ) → o < n → (b : Bool) → getD ms o 0 ≡ one b
-      → getD (marked e n v ms) o 0 ≡ one (b || holds e (v * n + o))
+      → getD (markedIn e n v ms) o 0 ≡ one (b || hasPage e (v * n + o))
   marked-at s l o h b eq =
       by-cases (ℕ-discrete (e .physical / n) v)
       (λ here. let p = e .physical in
@@ -100,7 +100,7 @@ unfolding slotsFrom covered
 marks-none ws n v ms h o s = h o s
 
 pub marks-more : (ws : List ℕ) (u n v : ℕ) (ms ms′ : List ℕ) → slot ws u .physical % n + slot ws u .count ≤ n → n ≤ length ms
-    → Marks ws u n v ms → ms′ ≡ marked (slot ws u) n v ms → Marks ws (u + 1) n v ms′
+    → Marks ws u n v ms → ms′ ≡ markedIn (slot ws u) n v ms → Marks ws (u + 1) n v ms′
 marks-more ws u n v ms ms′ s l m e o h =
     ap (λ (xs : List ℕ). getD xs o 0) e
     ∙ marked-at (slot ws u) n v ms s l o h (covered (slotsFrom ws 0 u) n v o) (m o h)
@@ -109,7 +109,7 @@ marks-more ws u n v ms ms′ s l m e o h =
 -- the part of the marks that is an extent's comes back filled with ones
 pub marked-put : (e : Extent) (n v : ℕ) (ms ys : List ℕ) → e .physical / n ≡ v → e .physical % n + e .count ≤ n → n ≤ length ms
     → ys ≡ ones (length (midOf (e .physical % n) (e .physical % n + e .count - e .physical % n) ms))
-    → putMid (e .physical % n) (e .physical % n + e .count - e .physical % n) ms ys ≡ marked e n v ms
+    → putMid (e .physical % n) (e .physical % n + e .count - e .physical % n) ms ys ≡ markedIn e n v ms
 marked-put e n v ms ys here s l eq = part-filled (e .physical % n) (e .count) ms ys 1 (omega arith) eq ∙ sym (marked-here e n v ms here)
 
 -- ---- sums of the marks before each offset
@@ -159,8 +159,8 @@ module _ (n : ℕ) (live : ℕ → Bool) (ranks : List ℕ) (r : Ranks n live ra
   unfolding count
   rank-next o h = omega (arith, r .rank (o + 1) (omega arith), ap (λ (k : ℕ). count k live) (add-one o), r .rank o (omega arith))
 
-  pub rank-lt : (o : ℕ) → o < n → live o ≡ true → getD ranks o 0 < count n live
-  rank-lt o h t = omega (arith, r .rank o (omega arith), count-rise o n live h t)
+  pub rank-below : (o : ℕ) → o < n → live o ≡ true → getD ranks o 0 < count n live
+  rank-below o h t = omega (arith, r .rank o (omega arith), count-rise o n live h t)
 
   pub rises-live : (o : ℕ) → o < n → rises ranks o ≡ live o
   rises-live o h =

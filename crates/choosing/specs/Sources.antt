@@ -9,7 +9,7 @@ use lib.ListN.{length, getD, set, drop, length-append, length-drop, length-map}
 use lib.Seq.{set-at, drop-cons}
 use Rattle.rules.specs.Counting.{count, picks}
 use Rattle.rules.specs.Calls.{over}
-use Rattle.laws.specs.Picks.{kept, length-picks}
+use Rattle.laws.specs.Picks.{pickIf, length-picks}
 
 -- live says which offsets of block v are live
 unfoldable pub livePages : ℕ → ℕ → (ℕ → Bool) → List ℕ
@@ -47,13 +47,13 @@ module _ (n v : ℕ) (live : ℕ → Bool) (out : List ℕ) where
       ap (λ (ys : List ℕ). set ys k (v * n + o)) e
       ∙ over-more (pagesBelow n v live o) out (v * n + o) k (length-below n v live o ∙ sym c) h
       ∙ sym (ap (λ (xs : List ℕ). over xs out) (ap (pagesBelow n v live) (add-one o)
-      ∙ ap (λ (b : Bool). map (λ i. v * n + i) (picks o live ++ kept o b)) t ∙ map-append (λ i. v * n + i) (picks o live) (o ∷ [])))
+      ∙ ap (λ (b : Bool). map (λ i. v * n + i) (picks o live ++ pickIf o b)) t ∙ map-append (λ i. v * n + i) (picks o live) (o ∷ [])))
 
   pub listed-other : (o : ℕ) (out′ : List ℕ) → out′ ≡ over (pagesBelow n v live o) out → live o ≡ false → out′ ≡ over (pagesBelow n v live (o + 1)) out
   unfolding picks
   listed-other o out′ e t =
       e ∙ sym (ap (λ (xs : List ℕ). over xs out) (ap (pagesBelow n v live) (add-one o)
-      ∙ ap (λ (b : Bool). map (λ i. v * n + i) (picks o live ++ kept o b)) t ∙ ap (map (λ i. v * n + i)) (append-nil (picks o live))))
+      ∙ ap (λ (b : Bool). map (λ i. v * n + i) (picks o live ++ pickIf o b)) t ∙ ap (map (λ i. v * n + i)) (append-nil (picks o live))))
 
   pub listed-end : (o : ℕ) (out′ : List ℕ) → out′ ≡ over (pagesBelow n v live o) out → o ≡ n → out′ ≡ over (livePages n v live) out
   unfolding livePages
@@ -63,7 +63,7 @@ module _ (n v : ℕ) (live : ℕ → Bool) (out : List ℕ) where
 picks-same : (k : ℕ) (s t : ℕ → Bool) → ((o : ℕ) → o < k → s o ≡ t o) → picks k s ≡ picks k t
 unfolding picks
 picks-same zero s t h = refl
-picks-same (suc k) s t h = ap₂ (λ (xs : List ℕ) (b : Bool). xs ++ kept k b) (picks-same k s t (λ o a. h o (omega arith))) (h k (omega arith))
+picks-same (suc k) s t h = ap₂ (λ (xs : List ℕ) (b : Bool). xs ++ pickIf k b) (picks-same k s t (λ o a. h o (omega arith))) (h k (omega arith))
 
 pub pages-same : (n v : ℕ) (s t : ℕ → Bool) → ((o : ℕ) → o < n → s o ≡ t o) → livePages n v s ≡ livePages n v t
 unfolding livePages

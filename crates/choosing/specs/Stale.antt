@@ -12,7 +12,7 @@ use Rattle.rules.specs.Blocks.{fillWord, validWord}
 use Rattle.rules.specs.Device.{Device, blocks, fill, valid, staleIn}
 use Rattle.rules.specs.Reclaim.{victim}
 use Rattle.laws.specs.Picks.{most-same}
-use Rattle.laws.specs.Device.{Sound}
+use Rattle.laws.specs.Device.{SoundDevice}
 use Rattle.laws.specs.Balance.{valid-stale}
 
 -- what stands below the fill and is not valid
@@ -65,7 +65,7 @@ module _ (n : ℕ) (f : ℕ → ℕ) (r k : ℕ) (m : Most n f r k) where
   }
 
 -- by the records of a sound device it is the victim
-pub victim-words : (d : Device) → Sound d → (ws : List ℕ) → ((b : ℕ) → b < blocks d → fillWord ws b ≡ fill d b)
+pub victim-words : (d : Device) → SoundDevice d → (ws : List ℕ) → ((b : ℕ) → b < blocks d → fillWord ws b ≡ fill d b)
     → ((b : ℕ) → b < blocks d → validWord ws b ≡ valid d b) → most (blocks d) (staleWord ws) ≡ victim d
 unfolding victim
 victim-words d s ws f w = most-same (blocks d) (staleWord ws) (staleIn d) (λ b h. omega (arith, f b h, w b h, valid-stale d s b h))

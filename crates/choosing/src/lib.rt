@@ -9,7 +9,7 @@ ghost use Rattle.rules.specs.Calls.{over};
 ghost use Rattle.words.specs.Store.{stored};
 ghost use Rattle.choosing.specs.Stale.{staleWord};
 ghost use Rattle.choosing.specs.Covered.{covered};
-ghost use Rattle.choosing.specs.Ranks.{Ranks, rises, marked, Marks, sums};
+ghost use Rattle.choosing.specs.Ranks.{Ranks, rises, markedIn, Marks, sums};
 ghost use Rattle.choosing.specs.Sources.{livePages};
 
 pub fn stale_of(blk: &[u32], b: usize) -> u32
@@ -41,7 +41,7 @@ pub fn victim_of(blk: &[u32], blocks: u32) -> u32
 // Ones at the offsets of slot i, where it lies in block v.
 fn mark_slot(marks: &mut [u32], ext: &[u32], i: usize, n: u32, v: u32)
     requires { ⌜ (3 * i + 2 < length (now ext)) × (1 ≤ n) × (n ≤ length (now marks)) × (slot (now ext) i .physical % n + slot (now ext) i .count ≤ n) ⌝ }
-    ensures { λ _. ⌜ now (marks .exit) ≡ marked (slot (now (ext .entry)) i) n v (now (marks .entry)) ⌝ }
+    ensures { λ _. ⌜ now (marks .exit) ≡ markedIn (slot (now (ext .entry)) i) n v (now (marks .entry)) ⌝ }
 {
     let at = 3 * i;
     let p = ext[at + 1];

@@ -7,17 +7,17 @@ use lib.ListN.{length, getD, take, drop}
 use Rattle.rules.specs.Extents.{end, slot, slotsFrom}
 use Rattle.rules.specs.declared.Extent.{Extent}
 use Rattle.laws.specs.Cut.{cut}
-use Rattle.laws.specs.Slots.{slots-length}
+use Rattle.laws.specs.Slots.{blank, slots-length}
 use Rattle.laws.specs.Counts.{startsBefore, endsAfter, cut-length, cut-bound}
-use Rattle.map.specs.Sound.{Sound, Piece, sound-piece}
+use Rattle.map.specs.Sound.{SoundMap, Piece, sound-piece}
 use Rattle.map.specs.Around.{starts-le, ends-le}
 use Rattle.map.specs.Padded.{padded, Holds, Becomes, became-length, became-slots, became-holds}
-use Rattle.map.specs.Clip.{clipRight, clipLeft, splitAt, blank, clip-right-length, clip-left-length, right-at, at-slot, sound-starts, sound-ends, cut-apart, cut-split}
+use Rattle.map.specs.Clip.{clipRight, clipLeft, splitAt, clip-right-length, clip-left-length, right-at, at-slot, sound-starts, sound-ends, cut-apart, cut-split}
 
 -- l up to e can be cut out of the extents in u slots
 pub record Cuttable (ws : List ℕ) (u l e : ℕ) : Type 0 where
   pub held : Holds ws u
-  pub sound : Sound (slotsFrom ws 0 u)
+  pub sound : SoundMap (slotsFrom ws 0 u)
   pub range : l < e
   pub room : 3 * length (cut l e (slotsFrom ws 0 u)) ≤ length ws
 
@@ -32,7 +32,7 @@ module _ (ws : List ℕ) (u l e before after : ℕ) (k : Cuttable ws u l e) (b :
   h : Holds ws u
   h = k .held
 
-  s : Sound es
+  s : SoundMap es
   s = k .sound
 
   r : l < e

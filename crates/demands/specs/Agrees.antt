@@ -11,7 +11,7 @@ use Rattle.rules.specs.Placement.{targets, puts, places}
 use Rattle.rules.specs.Request.{withTable, numbered, written, trimmed}
 use Rattle.rules.specs.Reclaim.{victim, reclaimed}
 use Rattle.laws.specs.Cells.{length-tabulate, getD-tabulate, sets-tells, replicate-at}
-use Rattle.laws.specs.Device.{Sound}
+use Rattle.laws.specs.Device.{SoundDevice}
 use Rattle.laws.specs.Order.{length-targets, targets-open, puts-all}
 use Rattle.laws.specs.Lines.{trimmed-lines}
 use Rattle.laws.specs.Reclaimed.{re-lines}
@@ -37,14 +37,14 @@ unfolding numbered withTable
 numbered-lines k d = refl
 
 -- the contents of n pages, 0 where the list ends
-abbrev pub padded : ℕ → List ℕ → List ℕ
-padded n xs = tabulate n (λ i. getD xs i 0)
+abbrev pub filledUp : ℕ → List ℕ → List ℕ
+filledUp n xs = tabulate n (λ i. getD xs i 0)
 
 abbrev pub cells : ℕ → List ℕ → List Seen
 cells n xs = tabulate n (λ i. cell (value (getD xs i 0)))
 
-pub agrees-write : (k l n : ℕ) (xs : List ℕ) (d : Device) (f : List Cell) (t : List Seen) → Sound d → Agrees d f t → l + n ≤ lines d → n ≤ free d
-    → Agrees (written k l n d) (program (places l n d) (padded n xs) f) (sets t l (cells n xs))
+pub agrees-write : (k l n : ℕ) (xs : List ℕ) (d : Device) (f : List Cell) (t : List Seen) → SoundDevice d → Agrees d f t → l + n ≤ lines d → n ≤ free d
+    → Agrees (written k l n d) (program (places l n d) (filledUp n xs) f) (sets t l (cells n xs))
 unfolding written puts places
 agrees-write k l n xs d f t s a h r =
     let bs = targets l n d in
@@ -52,9 +52,9 @@ agrees-write k l n xs d f t s a h r =
     let v = targets-open l n d s r h in
     let p = puts-all l n d s r h in
     let z = length-tabulate n (λ i. getD xs i 0) in
-    let w = write-shows l bs (padded n xs) d f s (a .clean) v (omega arith) (omega arith) in
+    let w = write-shows l bs (filledUp n xs) d f s (a .clean) v (omega arith) (omega arith) in
     let d′ = puts l n d in
-    let f′ = program (places l n d) (padded n xs) f in
+    let f′ = program (places l n d) (filledUp n xs) f in
     let many = length-tabulate n (λ i. cell (value (getD xs i 0))) in
     record {
       clean = numbered-clean k d′ f′ (w .clean);
@@ -77,7 +77,7 @@ agrees-trim k l n d f t a h =
           (λ j q. trim-keeps k l n d f j (λ x y. q x (omega arith)) ∙ a .says j);
     }
 
-pub agrees-reclaim : (d : Device) (f : List Cell) (t : List Seen) → Sound d → Agrees d f t → 0 < stale d → Agrees (reclaimed d) (vacate (victim d) d f) t
+pub agrees-reclaim : (d : Device) (f : List Cell) (t : List Seen) → SoundDevice d → Agrees d f t → 0 < stale d → Agrees (reclaimed d) (vacate (victim d) d f) t
 unfolding reclaimed
 agrees-reclaim d f t s a h =
     let c = victim-chosen d s h in

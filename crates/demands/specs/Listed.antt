@@ -13,9 +13,9 @@ use Rattle.rules.specs.Device.{Device, lines, fill}
 use Rattle.rules.specs.Placement.{putAt, putsAt, placesAt}
 use Rattle.rules.specs.declared.Extent.{Extent}
 use Rattle.laws.specs.Bools.{cases}
-use Rattle.laws.specs.Cells.{tabulate-same, tabulate-append, Blanks, copies as copiesOf}
+use Rattle.laws.specs.Cells.{tabulate-same, tabulate-append, Blanks, copiesInto}
 use Rattle.laws.specs.Runs.{joinable-true, join-joined, join-apart, runs-page}
-use Rattle.laws.specs.Device.{Sound}
+use Rattle.laws.specs.Device.{SoundDevice}
 use Rattle.laws.specs.Placed.{Opens, put-one}
 use Rattle.demands.specs.Flash.{Cell, erased, value}
 use Rattle.demands.specs.Shows.{Clean, put-ready, put-inside, put-clean, program}
@@ -93,7 +93,7 @@ writes-marks l (b ∷ bs) (x ∷ xs) d v e =
     ap (λ (c : ℕ). marking (d .pages) (writes (placesAt (suc l) bs (putAt b l d)) xs) (set (d .fills) c (suc (fill d c)))) (digits-div b (v .0 .below))
     ∙ writes-marks (suc l) bs xs (putAt b l d) (v .1) (omega arith)
 
-pub writes-allowed : (l : ℕ) (bs xs : List ℕ) (d : Device) (f : List Cell) → Sound d → Clean d f → Opens l bs d → l + length bs ≤ lines d
+pub writes-allowed : (l : ℕ) (bs xs : List ℕ) (d : Device) (f : List Cell) → SoundDevice d → Clean d f → Opens l bs d → l + length bs ≤ lines d
     → AllAllowed (d .pages) (writes (placesAt l bs d) xs) f (d .fills)
 unfolding does marks writes placesAt putAt
 writes-allowed l [] xs d f s c v h = tt
@@ -113,8 +113,8 @@ writes-allowed l (b ∷ bs) (x ∷ xs) d f s c v h =
 
 -- ---- a reclaim
 
-pub copies-does : (n to : ℕ) (ps : List ℕ) (f : List Cell) → doing n (copies to ps) f ≡ copiesOf erased to ps f
-unfolding doing does copies copiesOf
+pub copies-does : (n to : ℕ) (ps : List ℕ) (f : List Cell) → doing n (copies to ps) f ≡ copiesInto erased to ps f
+unfolding doing does copies copiesInto
 copies-does n to [] f = refl
 copies-does n to (p ∷ ps) f = copies-does n (suc to) ps (set f to (getD f p erased))
 

@@ -1,4 +1,4 @@
--- Demand 2, of whatever begins a history: one corollary for every make (rules, Makes). An accepted make of a good device leaves a sound state; and from there,
+-- Demand 2, of whatever begins a history: one corollary for every make (rules, Makes). An accepted make of a storable device leaves a sound state; and from there,
 -- on flash that is erased from each block's fill on, any sequence of calls meets the demand. Fresh is one, on flash that is all erased.
 -- This is the statement; `demand-2-made` (Proved) proves it.
 use Prim.Native.Nat.{ℕ}

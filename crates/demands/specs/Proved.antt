@@ -10,7 +10,7 @@ use Rattle.rules.specs.Sound.{sound}
 use Rattle.rules.specs.Device.{Device, deviceOf}
 use Rattle.rules.specs.Makes.{Make, make}
 use Rattle.rules.specs.Calls.{Call, call, freshDevice, fromSizes, fresh}
-use Rattle.laws.specs.Sane.{Good}
+use Rattle.laws.specs.Sound.{Storable}
 use Rattle.laws.specs.States.{words-device}
 use Rattle.laws.specs.Makes.{make-leaves, make-sound}
 use Rattle.demands.specs.Flash.{Cell}
@@ -22,7 +22,7 @@ use Rattle.demands.specs.Demand3.{Asked, until, Settles, Demand3}
 use Rattle.demands.specs.Once.{AppliedOnce}
 use Rattle.demands.specs.Struck.{SixStruck}
 use Rattle.demands.specs.Refusals.{answers, reports, fresh-answers}
-use Rattle.demands.specs.Starts.{begin-holds, erasedFlash, erased-all, made-good, made-begins}
+use Rattle.demands.specs.Starts.{begin-holds, erasedFlash, erased-all, made-storable, made-begins}
 use Rattle.demands.specs.Histories.{holds-demand}
 use Rattle.demands.specs.Settling.{settles, wide-enough, write-enough}
 use Rattle.demands.specs.Repeats.{begins-once}
@@ -37,8 +37,8 @@ pub demand-2-from : (s : Lent) → shaped s ≡ true → sound s ≡ true → (f
 unfolding begin
 demand-2-from s z e f c asks = holds-demand (s .head .logical) (begin s f) (begin-holds s z e f c) asks
 
--- the same from any accepted make of a good device
-pub demand-2-made : (a : Make) → Good (a .device) → (extentWords blockWords spare : List ℕ) → make a extentWords blockWords spare .refusal ≡ 0
+-- the same from any accepted make of a storable device
+pub demand-2-made : (a : Make) → Storable (a .device) → (extentWords blockWords spare : List ℕ) → make a extentWords blockWords spare .refusal ≡ 0
     → Made a extentWords blockWords spare
 demand-2-made a g es bs ss e =
     let s = make a es bs ss .after in
@@ -57,7 +57,7 @@ unfolding fresh
 demand-2 b n l m es bs ss e asks =
     let s = fresh b n l m es bs ss .after in
     subst (λ (w : World). Demand2 w (freshDevice b n l m) asks) (sym (made-begins b n l m es bs ss e))
-    (demand-2-made (fromSizes b n l m) (made-good b n l m es bs ss e) es bs ss e .begins (erasedFlash s) (erased-all s) asks)
+    (demand-2-made (fromSizes b n l m) (made-storable b n l m es bs ss e) es bs ss e .begins (erasedFlash s) (erased-all s) asks)
 
 -- from any sound state
 pub demand-3 : (s : Lent) → shaped s ≡ true → sound s ≡ true → Demand3 s

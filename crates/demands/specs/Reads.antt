@@ -42,6 +42,6 @@ pub read-passes : (l : ℕ) (out : List ℕ) (d : Device) → l < lines d → 3 
 read-passes l out d h r =
     passes (Call.read l 1 out) d (record { range = record { some = omega arith; inside = omega arith }; room = omega (arith, ap length (found-one l d h)) })
 
-pub read-lists : (l : ℕ) (d : Device) → l < lines d → (out : List ℕ) → lists (Call.read l 1 out) d ≡ l ∷ at d l ∷ 1 ∷ []
+pub read-one-lists : (l : ℕ) (d : Device) → l < lines d → (out : List ℕ) → lists (Call.read l 1 out) d ≡ l ∷ at d l ∷ 1 ∷ []
 unfolding lists flat
-read-lists l d h out = ap flat (found-one l d h)
+read-one-lists l d h out = ap flat (found-one l d h)

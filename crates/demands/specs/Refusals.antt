@@ -76,18 +76,18 @@ module _ (s : Lent) where
   short : (out : List ℕ) (es : List Extent) → ltb (length out) (3 * length es) ≡ ltb (length out) (length (flat es))
   short out es = ap (ltb (length out)) (sym (flat-length es))
 
-  pub first : (c : Call) → verdict c s ≡ firstGiven (order c) (given c s)
+  pub first-applies : (c : Call) → verdict c s ≡ firstGiven (order c) (given c s)
   unfolding tested refusal writeRefusal trimRefusal readRefusal reclaimRefusal firstGiven leaves lists
-  first (Call.write k l n out) =
+  first-applies (Call.write k l n out) =
       row Refusal.Shape refl (row Refusal.Damaged refl (row Refusal.Range (ranged-write l n) (number-row k
       (row Refusal.NoPages refl (row Refusal.NoNodes (many-write k l n) (row Refusal.OutShort (short out (pieces l n d)) refl))))))
-  first (Call.trim k l n) =
+  first-applies (Call.trim k l n) =
       row Refusal.Shape refl (row Refusal.Damaged refl (row Refusal.Range (ranged l n) (number-row k (row Refusal.NoNodes (many-trim k l n) refl))))
-  first (Call.read l n out) =
+  first-applies (Call.read l n out) =
       row Refusal.Shape refl (row Refusal.Damaged refl (row Refusal.Range (ranged l n) (row Refusal.OutShort (short out (found l n d)) refl)))
-  first (Call.reclaim out) =
+  first-applies (Call.reclaim out) =
       row Refusal.Shape refl (row Refusal.Damaged refl (row Refusal.NothingStale refl (row Refusal.OutShort refl refl)))
-  first Call.report = row Refusal.Shape refl (row Refusal.Damaged refl refl)
+  first-applies Call.report = row Refusal.Shape refl (row Refusal.Damaged refl refl)
 
 -- ---- a call
 
@@ -117,7 +117,7 @@ beyond c s = let ws = lists c (deviceOf s) in drop-append-seam ws (drop (length 
 
 pub answers : (c : Call) (s : Lent) → Answers c s (call c s)
 answers c s = record {
-  refusal = call-verdict c s ∙ first s c;
+  refusal = call-verdict c s ∙ first-applies s c;
   refused = refused-untouched c s;
   accepted = accepted-on c s;
   rest = λ e. ap (λ (o : Outcome Lent). drop (length (lists c (deviceOf s))) (o .out)) (accepted-on c s e) ∙ beyond c s;

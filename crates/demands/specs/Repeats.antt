@@ -20,13 +20,13 @@ use Rattle.rules.specs.declared.Refusal.{Refusal}
 use Rattle.laws.specs.Bools.{cases, and-split}
 use Rattle.laws.specs.Sums.{count-within}
 use Rattle.laws.specs.Cells.{sets-other}
-use Rattle.laws.specs.Sane.{Good}
+use Rattle.laws.specs.Sound.{Storable}
 use Rattle.laws.specs.Placed.{puts-table, length-places}
 use Rattle.laws.specs.Order.{puts-all, length-targets}
 use Rattle.laws.specs.Lines.{trimmed-lines, trimmed-other}
 use Rattle.laws.specs.Gains.{reclaim-all}
 use Rattle.laws.specs.States.{device-lines, device-blocks, words-device, words-valid}
-use Rattle.laws.specs.Kept.{refuse-none, taken, keeps, device-good, device-is, accepted-in, accepted-sound}
+use Rattle.laws.specs.Kept.{refuse-none, refusal-taken, keeps, device-storable, device-is, accepted-in, accepted-sound}
 use Rattle.demands.specs.Flash.{Cell}
 use Rattle.demands.specs.Host.{Ask, ops, doing, marking, World, step, run, begin}
 use Rattle.demands.specs.Requests.{carries, isWrite, numberOf, startOf, countOf, again}
@@ -59,8 +59,8 @@ leaves-number (Call.reclaim out) d e = absurd (false≢true e)
 leaves-number Call.report d e = absurd (false≢true e)
 
 taken-newer : (c : Call) (d : Device) → carries c ≡ true → refusal c d ≡ 0 → d .last .number < numberOf c
-taken-newer (Call.write k l n out) d e t = taken (Call.write k l n out) d t .newer
-taken-newer (Call.trim k l n) d e t = taken (Call.trim k l n) d t .newer
+taken-newer (Call.write k l n out) d e t = refusal-taken (Call.write k l n out) d t .newer
+taken-newer (Call.trim k l n) d e t = refusal-taken (Call.trim k l n) d t .newer
 taken-newer (Call.read l n out) d e t = absurd (false≢true e)
 taken-newer (Call.reclaim out) d e t = absurd (false≢true e)
 taken-newer Call.report d e t = absurd (false≢true e)
@@ -120,20 +120,20 @@ nothing b v e f h =
 
 -- ---- the very same request
 
-leaves-lines : (c : Call) (d : Device) → Good d → refusal c d ≡ 0 → lines (leaves c d) ≡ lines d
+leaves-lines : (c : Call) (d : Device) → Storable d → refusal c d ≡ 0 → lines (leaves c d) ≡ lines d
 unfolding leaves written numbered withTable
-leaves-lines (Call.write k l n out) d g e = let t = taken (Call.write k l n out) d e in puts-all l n d (g .sound) (t .pages) (t .range .inside) .lines
+leaves-lines (Call.write k l n out) d g e = let t = refusal-taken (Call.write k l n out) d e in puts-all l n d (g .sound) (t .pages) (t .range .inside) .lines
 leaves-lines (Call.trim k l n) d g e = trimmed-lines k l n d
 leaves-lines (Call.read l n out) d g e = refl
-leaves-lines (Call.reclaim out) d g e = reclaim-all d (g .sound) (taken (Call.reclaim out) d e .gains) .lines
+leaves-lines (Call.reclaim out) d g e = reclaim-all d (g .sound) (refusal-taken (Call.reclaim out) d e .gains) .lines
 leaves-lines Call.report d g e = refl
 
-leaves-blocks : (c : Call) (d : Device) → Good d → refusal c d ≡ 0 → blocks (leaves c d) ≡ blocks d
+leaves-blocks : (c : Call) (d : Device) → Storable d → refusal c d ≡ 0 → blocks (leaves c d) ≡ blocks d
 unfolding leaves written numbered withTable trimmed
-leaves-blocks (Call.write k l n out) d g e = let t = taken (Call.write k l n out) d e in puts-all l n d (g .sound) (t .pages) (t .range .inside) .blocks
+leaves-blocks (Call.write k l n out) d g e = let t = refusal-taken (Call.write k l n out) d e in puts-all l n d (g .sound) (t .pages) (t .range .inside) .blocks
 leaves-blocks (Call.trim k l n) d g e = refl
 leaves-blocks (Call.read l n out) d g e = refl
-leaves-blocks (Call.reclaim out) d g e = reclaim-all d (g .sound) (taken (Call.reclaim out) d e .gains) .blocks
+leaves-blocks (Call.reclaim out) d g e = reclaim-all d (g .sound) (refusal-taken (Call.reclaim out) d e .gains) .blocks
 leaves-blocks Call.report d g e = refl
 
 call-lines : (c : Call) (s : Lent) → call c s .after .head .logical ≡ s .head .logical
@@ -141,7 +141,7 @@ unfolding wordsOf headOf
 call-lines c s =
     either c s
     (λ e. let a = accepted-in c s e in
-    ap (λ (t : Lent). t .head .logical) (a .after) ∙ leaves-lines c (deviceOf s) (device-good s (a .shape) (a .whole)) (a .plainly) ∙ device-lines s)
+    ap (λ (t : Lent). t .head .logical) (a .after) ∙ leaves-lines c (deviceOf s) (device-storable s (a .shape) (a .whole)) (a .plainly) ∙ device-lines s)
     (λ e. ap (λ (t : Lent). t .head .logical) (refused-untouched c s e .after))
 
 run-range : (asks : List Ask) (w : World) (c : Call) → given c (run asks w .state) Refusal.Range ≡ given c (w .state) Refusal.Range
@@ -207,14 +207,14 @@ puts-other l n d j h =
     ap (λ (t : List ℕ). getD t j none) (puts-table l bs d)
     ∙ sets-other none (placesAt l bs d) (d .table) l j (λ a b. h a (omega (arith, length-places l bs d, length-targets l n d)))
 
-leaves-lowered : (c : Call) (d : Device) → Good d → carries c ≡ true → refusal c d ≡ 0 → (b : ℕ) → valid (leaves c d) b + held b c d ≡ valid d b + held b c (leaves c d)
+leaves-lowered : (c : Call) (d : Device) → Storable d → carries c ≡ true → refusal c d ≡ 0 → (b : ℕ) → valid (leaves c d) b + held b c d ≡ valid d b + held b c (leaves c d)
 leaves-lowered (Call.write k l n out) d g e h =
     let c = Call.write k l n out in
-    let t = taken c d h in
+    let t = refusal-taken c d h in
     lowered d (leaves c d) c (leaves-pages c d) (leaves-lines c d g h) (t .range .inside) (unfold leaves written numbered withTable in puts-other l n d)
 leaves-lowered (Call.trim k l n) d g e h =
     let c = Call.trim k l n in
-    let t = taken c d h in
+    let t = refusal-taken c d h in
     lowered d (leaves c d) c (leaves-pages c d) (leaves-lines c d g h) (t .range .inside) (unfold leaves in trimmed-other k l n d)
 leaves-lowered (Call.read l n out) d g e h = absurd (false≢true e)
 leaves-lowered (Call.reclaim out) d g e h = absurd (false≢true e)
@@ -225,7 +225,7 @@ call-lowered : (c : Call) (s : Lent) → carries c ≡ true → call c s .refusa
 call-lowered c s n e b h =
     let a = accepted-in c s e in
     let d = deviceOf s in
-    let g = device-good s (a .shape) (a .whole) in
+    let g = device-storable s (a .shape) (a .whole) in
     let x = leaves c d in
     let y = keeps c d g (a .plainly) in
     omega (

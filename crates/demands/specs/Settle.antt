@@ -12,7 +12,7 @@ use lib.ListN.{length}
 use Rattle.rules.specs.Device.{Device, blocks, lines, staleIn, live, stale, free}
 use Rattle.rules.specs.Reclaim.{reclaimed}
 use Rattle.laws.specs.Sums.{count-lt}
-use Rattle.laws.specs.Device.{Sound}
+use Rattle.laws.specs.Device.{SoundDevice}
 use Rattle.laws.specs.Balance.{balance, live-le, stale-reserve}
 use Rattle.laws.specs.Gains.{staleBlocks, reclaim-all}
 
@@ -31,7 +31,7 @@ unfolding settle
 settle-more k d e = rw (ne-eqb (stale d) 0 e)
 
 pub record Settled (d e : Device) : Type 0 where
-  pub sound : Sound e
+  pub sound : SoundDevice e
   pub clean : stale e ≡ 0
   pub pages : e .pages ≡ d .pages
   pub blocks : length (e .fills) ≡ length (d .fills)
@@ -40,11 +40,11 @@ pub record Settled (d e : Device) : Type 0 where
   pub last : e .last ≡ d .last
   pub live : live e ≡ live d
 
-settled-same : (d : Device) → Sound d → stale d ≡ 0 → Settled d d
+settled-same : (d : Device) → SoundDevice d → stale d ≡ 0 → Settled d d
 settled-same d s z = record { sound = s; clean = z; pages = refl; blocks = refl; lines = refl; slots = refl; last = refl; live = refl }
 
 -- a reclaim for each block with stale pages is enough
-pub settle-ends : (k : ℕ) (d : Device) → Sound d → staleBlocks d ≤ k → Settled d (settle k d)
+pub settle-ends : (k : ℕ) (d : Device) → SoundDevice d → staleBlocks d ≤ k → Settled d (settle k d)
 settle-ends zero d s h =
     let z : stale d ≡ 0 = by-cases (ℕ-discrete (stale d) 0) (λ e. e) (λ e. omega (arith, reclaim-all d s (omega arith) .staleBlocks)) in
     rw (settle-done zero d z) (settled-same d s z)
@@ -65,14 +65,14 @@ settle-ends (suc k) d s h =
     }))
 
 -- the reserve has none
-pub stale-blocks-lt : (d : Device) → Sound d → staleBlocks d < blocks d
+pub stale-blocks-lt : (d : Device) → SoundDevice d → staleBlocks d < blocks d
 unfolding staleBlocks
 stale-blocks-lt d s =
     count-lt (blocks d) (λ b. ltb 0 (staleIn d b)) (d .reserve) (s .kept)
     (le-ltb 0 (staleIn d (d .reserve)) (omega (arith, stale-reserve d s)))
 
 -- with nothing stale a whole block is free
-pub never-stuck : (d : Device) → Sound d → 2 ≤ blocks d → lines d ≤ (blocks d - 2) * d .pages → stale d ≡ 0 → d .pages ≤ free d
+pub never-stuck : (d : Device) → SoundDevice d → 2 ≤ blocks d → lines d ≤ (blocks d - 2) * d .pages → stale d ≡ 0 → d .pages ≤ free d
 never-stuck d s two h z =
     let k = blocks d - 2 in
     let e : blocks d ≡ suc (suc k) = omega arith in

@@ -24,36 +24,36 @@ use Rattle.laws.specs.Reclaimed.{few-sources}
 use Rattle.laws.specs.Gains.{staleBlocks, victim-chosen, reclaim-all}
 use Rattle.demands.specs.Settle.{settle, settle-done, settle-more, Settled, settle-ends, stale-blocks-lt, never-stuck}
 use Rattle.demands.specs.Flash.{Cell, Seen, hole}
-use Rattle.laws.specs.Sane.{Good}
-use Rattle.laws.specs.States.{words-device, good-shaped, good-sound}
+use Rattle.laws.specs.Sound.{Storable}
+use Rattle.laws.specs.States.{words-device, storable-shaped, storable-sound}
 use Rattle.laws.specs.Slots.{flat-length}
 use Rattle.laws.specs.Runs.{runs-length}
 use Rattle.laws.specs.Encoded.{reclaim-shrinks}
-use Rattle.laws.specs.Kept.{WriteTaken, passes, keeps, device-good, device-is}
+use Rattle.laws.specs.Kept.{WriteTaken, passes, keeps, device-storable, device-is}
 use Rattle.laws.specs.Growth.{write-bound, write-lines}
 use Rattle.demands.specs.Host.{shown, World, step, begin}
 use Rattle.demands.specs.Demand3.{Asked, LongEnough, staleOf, reclaiming, later, until, times, Way, Roomy, Gains, Spares, Demand3}
-use Rattle.demands.specs.Worlds.{Holds, call-taken, step-holds, holds-reads}
+use Rattle.demands.specs.Worlds.{Faithful, call-taken, step-holds, holds-reads}
 use Rattle.demands.specs.Starts.{begin-holds}
 
 -- ---- a reclaim, and the report
 
-stale-words : (d : Device) → Good d → staleOf (wordsOf d) ≡ stale d
+stale-words : (d : Device) → Storable d → staleOf (wordsOf d) ≡ stale d
 unfolding staleOf encoded accepted counts refusal
 stale-words d g = ap (λ (o : Outcome Lent). getD (o .counts) 2 0) (call-taken Call.report d g refl)
 
 -- what is long enough for the words of a device is so for the device
-enough : (c : Call) (d : Device) → Good d → LongEnough c (wordsOf d) → length (lists c d) ≤ length (buffer c)
+enough : (c : Call) (d : Device) → Storable d → LongEnough c (wordsOf d) → length (lists c d) ≤ length (buffer c)
 enough c d g r = subst (λ (x : Device). length (lists c x) ≤ length (buffer c)) (words-device d g) r
 
-module _ (out : List ℕ) (d : Device) (g : Good d) (h : stale d ≡ 0 → ⊥) (r : LongEnough (Call.reclaim out) (wordsOf d)) where
+module _ (out : List ℕ) (d : Device) (g : Storable d) (h : stale d ≡ 0 → ⊥) (r : LongEnough (Call.reclaim out) (wordsOf d)) where
   taken-reclaim : refusal (Call.reclaim out) d ≡ 0
   unfolding lists
   taken-reclaim = passes (Call.reclaim out) d (record { gains = omega arith; room = enough (Call.reclaim out) d g r })
 
-  good-reclaim : Good (reclaimed d)
+  storable-reclaim : Storable (reclaimed d)
   unfolding leaves
-  good-reclaim = keeps (Call.reclaim out) d g taken-reclaim
+  storable-reclaim = keeps (Call.reclaim out) d g taken-reclaim
 
   call-reclaim : call (Call.reclaim out) (wordsOf d) ≡ encoded (accepted (Call.reclaim out) d)
   call-reclaim = call-taken (Call.reclaim out) d g taken-reclaim
@@ -92,17 +92,17 @@ times-more k outs w e = rw (ne-eqb (staleOf (w .state)) 0 e)
 -- the reclaims are those of `settle` on the device
 record Ends (k : ℕ) (outs : ℕ → List ℕ) (w : World) (d e : Device) : Type 0 where
   state : until k outs w .state ≡ wordsOf e
-  good : Good e
+  storable : Storable e
   shrinks : length (extents e) ≤ length (extents d)
   times : times k outs w ≤ staleBlocks d
   way : Way Gains k outs w
 
-ends-now : (k : ℕ) (outs : ℕ → List ℕ) (w : World) (d : Device) → w .state ≡ wordsOf d → Good d → stale d ≡ 0 → Ends k outs w d d
+ends-now : (k : ℕ) (outs : ℕ → List ℕ) (w : World) (d : Device) → w .state ≡ wordsOf d → Storable d → stale d ≡ 0 → Ends k outs w d d
 ends-now k outs w d e g z =
     let y : staleOf (w .state) ≡ 0 = ap staleOf e ∙ stale-words d g ∙ z in
     record {
       state = ap (λ (v : World). v .state) (until-done k outs w y) ∙ e;
-      good = g;
+      storable = g;
       shrinks = omega arith;
       times = omega (arith, times-done k outs w y);
       way = no-way k y;
@@ -112,9 +112,9 @@ ends-now k outs w d e g z =
     no-way zero y = tt
     no-way (suc j) y = λ n. absurd (n y)
 
-ends : (k : ℕ) (outs : ℕ → List ℕ) (w : World) (d : Device) → w .state ≡ wordsOf d → Good d → Way Roomy k outs w → Ends k outs w d (settle k d)
+ends : (k : ℕ) (outs : ℕ → List ℕ) (w : World) (d : Device) → w .state ≡ wordsOf d → Storable d → Way Roomy k outs w → Ends k outs w d (settle k d)
 unfolding settle until times
-ends zero outs w d e g r = record { state = e; good = g; shrinks = omega arith; times = omega arith; way = tt }
+ends zero outs w d e g r = record { state = e; storable = g; shrinks = omega arith; times = omega arith; way = tt }
 ends (suc k) outs w d e g r =
     by-cases (ℕ-discrete (stale d) 0)
     (λ z. subst (Ends (suc k) outs w d) (sym (settle-done (suc k) d z)) (ends-now (suc k) outs w d e g z))
@@ -122,10 +122,10 @@ ends (suc k) outs w d e g r =
     let out = outs 0 in
     let room : LongEnough (Call.reclaim out) (wordsOf d) = subst (LongEnough (Call.reclaim out)) e (r y .0) in
     let c = reclaim-all d (g .sound) (omega arith) in
-    let i = ends k (later outs) (step (reclaiming out) w) (reclaimed d) (step-reclaim out d g z room w e) (good-reclaim out d g z room) (r y .1) in
+    let i = ends k (later outs) (step (reclaiming out) w) (reclaimed d) (step-reclaim out d g z room w e) (storable-reclaim out d g z room) (r y .1) in
     subst (Ends (suc k) outs w d) (sym (settle-more k d z)) (record {
       state = ap (λ (x : World). x .state) (until-more k outs w y) ∙ i .state;
-      good = i .good;
+      storable = i .storable;
       shrinks = omega (arith, i .shrinks, reclaim-shrinks d (g .sound) (omega arith));
       times = omega (arith, times-more k outs w y, i .times, c .staleBlocks);
       way = λ n. (gains out d g z room w e, i .way);
@@ -142,11 +142,11 @@ module _ (m : ℕ) where
   unfolding step shown
   table-kept out w = both (eqb (call (Call.reclaim out) (w .state) .refusal) 0) (w .table)
 
-  logical : (w : World) → Holds m w → w .state .head .logical ≡ m
+  logical : (w : World) → Faithful m w → w .state .head .logical ≡ m
   unfolding wordsOf headOf
   logical w h = ap (λ (v : World). v .state .head .logical) (h .is) ∙ h .lines
 
-  spares : (out : List ℕ) (w : World) → Holds m w → Spares out w
+  spares : (out : List ℕ) (w : World) → Faithful m w → Spares out w
   spares out w h = record {
     same = λ l k.
         let i : l < m = omega (arith, logical w h) in
@@ -156,7 +156,7 @@ module _ (m : ℕ) where
         ∙ sym (holds-reads m w h l i);
   }
 
-  spares-way : (k : ℕ) (outs : ℕ → List ℕ) (w : World) → Holds m w → Way Spares k outs w
+  spares-way : (k : ℕ) (outs : ℕ → List ℕ) (w : World) → Faithful m w → Way Spares k outs w
   spares-way zero outs w h = tt
   spares-way (suc k) outs w h = λ n. (spares (outs 0) w h, spares-way k (later outs) (step (reclaiming (outs 0)) w) (step-holds m (reclaiming (outs 0)) w h))
 
@@ -170,7 +170,7 @@ pieces-few : (l n : ℕ) (e : Device) → length (pieces l n e) ≤ n
 unfolding pieces
 pieces-few l n e = omega (arith, runs-length (e .pages) l (places l n e), length-placed l n e)
 
-write-taken : (d e : Device) (k l n : ℕ) (out : List ℕ) → Good d → Settled d e → length (extents e) ≤ length (extents d) → Asked (headOf d) k l n
+write-taken : (d e : Device) (k l n : ℕ) (out : List ℕ) → Storable d → Settled d e → length (extents e) ≤ length (extents d) → Asked (headOf d) k l n
     → length (lists (Call.write k l n out) e) ≤ length out → WriteTaken k l n out e
 unfolding headOf lists
 write-taken d e k l n out g q f a r =
@@ -191,7 +191,7 @@ write-taken d e k l n out g q f a r =
       room = omega (arith, flat-length (pieces l n e));
     }
 
-demand : (d : Device) → Good d → Demand3 (wordsOf d)
+demand : (d : Device) → Storable d → Demand3 (wordsOf d)
 unfolding wordsOf headOf begin encoded accepted
 demand d g f k l n out outs limit a h r =
     let w = begin (wordsOf d) f in
@@ -201,23 +201,23 @@ demand d g f k l n out outs limit a h r =
     let q = settle-ends limit d (g .sound) (omega arith) in
     let c = Call.write k l n out in
     record {
-      clean = ap staleOf (i .state) ∙ stale-words e (i .good) ∙ q .clean;
+      clean = ap staleOf (i .state) ∙ stale-words e (i .storable) ∙ q .clean;
       few = omega (arith, i .times);
       way = i .way;
-      same = λ y. spares-way (lines d) limit outs w (begin-holds (wordsOf d) (good-shaped d g) (good-sound d g) f y);
+      same = λ y. spares-way (lines d) limit outs w (begin-holds (wordsOf d) (storable-shaped d g) (storable-sound d g) f y);
       accepted = λ y.
-          let room = enough c e (i .good) (subst (LongEnough c) (i .state) y) in
+          let room = enough c e (i .storable) (subst (LongEnough c) (i .state) y) in
           ap (λ (s : Lent). call c s .refusal) (i .state)
-          ∙ ap (λ (o : Outcome Lent). o .refusal) (call-taken c e (i .good) (passes c e (write-taken d e k l n out g q (i .shrinks) a room)));
+          ∙ ap (λ (o : Outcome Lent). o .refusal) (call-taken c e (i .storable) (passes c e (write-taken d e k l n out g q (i .shrinks) a room)));
     }
 
 pub settles : (s : Lent) → shaped s ≡ true → sound s ≡ true → Demand3 s
-settles s z e = subst Demand3 (device-is s z e) (demand (deviceOf s) (device-good s z e))
+settles s z e = subst Demand3 (device-is s z e) (demand (deviceOf s) (device-storable s z e))
 
 -- ---- sizes that suffice
 
 -- a reclaim copies at most N pages
-wide : (k : ℕ) (outs : ℕ → List ℕ) (w : World) (d : Device) → w .state ≡ wordsOf d → Good d → ((i : ℕ) → d .pages ≤ length (outs i)) → Way Roomy k outs w
+wide : (k : ℕ) (outs : ℕ → List ℕ) (w : World) (d : Device) → w .state ≡ wordsOf d → Storable d → ((i : ℕ) → d .pages ≤ length (outs i)) → Way Roomy k outs w
 unfolding lists
 wide zero outs w d e g r = tt
 wide (suc k) outs w d e g r = λ y.
@@ -227,14 +227,14 @@ wide (suc k) outs w d e g r = λ y.
     let few = few-sources d (g .sound) (victim d) (c .inside) (c .other) in
     let long : LongEnough (Call.reclaim out) (wordsOf d) = rw (words-device d g) (omega (arith, r 0)) in (
       subst (LongEnough (Call.reclaim out)) (sym e) long,
-      wide k (later outs) (step (reclaiming out) w) (reclaimed d) (step-reclaim out d g z long w e) (good-reclaim out d g z long)
+      wide k (later outs) (step (reclaiming out) w) (reclaimed d) (step-reclaim out d g z long w e) (storable-reclaim out d g z long)
           (λ i. omega (arith, r (suc i), reclaim-all d (g .sound) (omega arith) .pages)),
     )
 
 pub wide-enough : (s : Lent) → shaped s ≡ true → sound s ≡ true → (f : List Cell) (k : ℕ) (outs : ℕ → List ℕ) → ((i : ℕ) → s .head .pages ≤ length (outs i))
     → Way Roomy k outs (begin s f)
 unfolding begin deviceOf
-wide-enough s z e f k outs r = wide k outs (begin s f) (deviceOf s) (sym (device-is s z e)) (device-good s z e) r
+wide-enough s z e f k outs r = wide k outs (begin s f) (deviceOf s) (sym (device-is s z e)) (device-storable s z e) r
 
 -- a write has at most a piece for each page
 pub write-enough : (k l n : ℕ) (out : List ℕ) (s : Lent) → 3 * n ≤ length out → LongEnough (Call.write k l n out) s

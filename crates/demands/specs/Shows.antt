@@ -15,8 +15,8 @@ use Rattle.rules.specs.Placement.{putAt, putsAt, placesAt}
 use Rattle.rules.specs.Request.{withTable, trimmed}
 use Rattle.rules.specs.Reclaim.{sources, moved, reclaimedAt}
 use Rattle.demands.specs.Flash.{Cell, erased, value, hole, cell, see, contents}
-use Rattle.laws.specs.Cells.{block-le, far, copies, copies-copied, Blanks, blanks}
-use Rattle.laws.specs.Device.{Sound, Blank, page-lt}
+use Rattle.laws.specs.Cells.{block-le, far, copiesInto, copies-copied, Blanks, blanks}
+use Rattle.laws.specs.Device.{SoundDevice, Blank, page-lt}
 use Rattle.laws.specs.Placed.{Open, Opens, put-pages, put-blocks, put-at, put-at-other, stored-in, stored-kept, stored-blank, put-one}
 use Rattle.laws.specs.Lines.{trimmed-in, trimmed-other}
 use Rattle.laws.specs.Reclaimed.{nth, length-sources, few-sources, source, source-page, re-pages, re-blocks, re-hole, re-some, length-moved, carried-kept, carried-blank}
@@ -36,7 +36,7 @@ pub record Clean (d : Device) (f : List Cell) : Type 0 where
 
 -- ---- one page programmed
 
-module _ (d : Device) (s : Sound d) (f : List Cell) (c : Clean d f) (b : ℕ) (v : Open d b) (l : ℕ) (a : l < lines d) (x : ℕ) where
+module _ (d : Device) (s : SoundDevice d) (f : List Cell) (c : Clean d f) (b : ℕ) (v : Open d b) (l : ℕ) (a : l < lines d) (x : ℕ) where
   pub put-ready : getD f (b * d .pages + fill d b) erased ≡ erased
   put-ready = c .blank b (fill d b) (v .inside) (omega arith) (v .below)
 
@@ -79,7 +79,7 @@ pub record Written (d : Device) (f : List Cell) (l : ℕ) (xs : List ℕ) (d′ 
   pub shows : (i j : ℕ) → i < length xs → j ≡ l + i → contents d′ f′ j ≡ cell (value (getD xs i 0))
   pub keeps : (k : ℕ) → (l ≤ k → k < l + length xs → ⊥) → contents d′ f′ k ≡ contents d f k
 
-pub write-shows : (l : ℕ) (bs xs : List ℕ) (d : Device) (f : List Cell) → Sound d → Clean d f → Opens l bs d → l + length bs ≤ lines d → length bs ≡ length xs
+pub write-shows : (l : ℕ) (bs xs : List ℕ) (d : Device) (f : List Cell) → SoundDevice d → Clean d f → Opens l bs d → l + length bs ≤ lines d → length bs ≡ length xs
     → Written d f l xs (putsAt l bs d) (program (placesAt l bs d) xs f)
 unfolding putsAt placesAt program
 write-shows l [] [] d f s c v h g = record { clean = c; shows = λ i j t e. absurd (omega arith); keeps = λ k t. refl }
@@ -116,9 +116,9 @@ trim-keeps k l n d f j h = ap (see f) (trimmed-other k l n d j h)
 
 -- the host copies the listed pages into the reserve, from its first page on, and then erases block v
 unfoldable pub vacate : ℕ → Device → List Cell → List Cell
-vacate v d f = sets (copies erased (d .reserve * d .pages) (sources v d) f) (v * d .pages) (replicate (d .pages) erased)
+vacate v d f = sets (copiesInto erased (d .reserve * d .pages) (sources v d) f) (v * d .pages) (replicate (d .pages) erased)
 
-module _ (d : Device) (s : Sound d) (f : List Cell) (c : Clean d f) (v : ℕ) (a : v < blocks d) (e : v ≡ d .reserve → ⊥) where
+module _ (d : Device) (s : SoundDevice d) (f : List Cell) (c : Clean d f) (v : ℕ) (a : v < blocks d) (e : v ≡ d .reserve → ⊥) where
   vacate-moved : vacate v d f ≡ moved erased v d f
   unfolding vacate moved
   vacate-moved =

@@ -15,10 +15,10 @@ use Rattle.rules.specs.Answers.{number}
 use Rattle.rules.specs.Calls.{Call, leaves, refused, acceptedOn, call}
 use Rattle.rules.specs.declared.Refusal.{Refusal}
 use Rattle.laws.specs.Encoded.{reclaim-shrinks}
-use Rattle.laws.specs.Kept.{device-good, device-is}
+use Rattle.laws.specs.Kept.{device-storable, device-is}
 use Rattle.demands.specs.Demand1.{order, given, firstGiven}
 use Rattle.demands.specs.Struck.{orderIn01, answerBy, SixStruck}
-use Rattle.demands.specs.Refusals.{first}
+use Rattle.demands.specs.Refusals.{first-applies}
 
 -- a row that stands in both lists: what follows it is asked where it does not apply
 behind : (t : Bool) (r : Refusal) (x y : ℕ) → (t ≡ false → x ≡ y) → cond t (number r) x ≡ cond t (number r) y
@@ -52,11 +52,11 @@ module _ (out : List ℕ) (s : Lent) where
     unfolding leaves
     shrinks =
         let some = eqb-false (stale (deviceOf s)) 0 h in
-        omega (arith, in-use, reclaim-shrinks (deviceOf s) (device-good s z e .sound) (omega arith))
+        omega (arith, in-use, reclaim-shrinks (deviceOf s) (device-storable s z e .sound) (omega arith))
 
     few : s .head .used ≤ s .head .slots
     unfolding deviceOf
-    few = omega (arith, in-use, device-good s z e .few)
+    few = omega (arith, in-use, device-storable s z e .few)
 
     unmet : given c s Refusal.NoNodes ≡ false
     unmet = le-ltb (s .head .slots) (length (extents (leaves c (deviceOf s)))) (omega (arith, shrinks, few))
@@ -75,7 +75,7 @@ module _ (out : List ℕ) (s : Lent) where
 
   stays : answerBy orderIn01 c s ≡ call c s
   unfolding answerBy call
-  stays = ap (λ (r : ℕ). cond (eqb r 0) (acceptedOn c s) (refused r c s)) (same ∙ sym (first s c))
+  stays = ap (λ (r : ℕ). cond (eqb r 0) (acceptedOn c s) (refused r c s)) (same ∙ sym (first-applies s c))
 
   pub struck : SixStruck out s
   struck = record { shrinks = shrinks; unmet = unmet; never = never; same = same; stays = stays }

@@ -23,14 +23,14 @@ use Rattle.laws.specs.Runs.{runs-holes}
 use Rattle.laws.specs.Fresh.{fresh-fill, fresh-blocks, fresh-lines, fresh-at, fresh-sound}
 use Rattle.demands.specs.Flash.{Cell, erased, hole, contents}
 use Rattle.demands.specs.Shows.{see-hole, Clean}
-use Rattle.laws.specs.Sane.{Sizes, Good}
+use Rattle.laws.specs.Sound.{Sizes, Storable}
 use Rattle.laws.specs.Shapes.{sizes-true, pages-fit}
 use Rattle.laws.specs.States.{device-lines, device-blocks, device-fill, words-fill}
-use Rattle.laws.specs.Kept.{refuse-none, device-good, device-is}
+use Rattle.laws.specs.Kept.{refuse-none, device-storable, device-is}
 use Rattle.laws.specs.Makes.{make-leaves, make-sound}
 use Rattle.demands.specs.Host.{reads, ErasedFromFill, begin}
 use Rattle.demands.specs.Demand2.{beginFresh}
-use Rattle.demands.specs.Worlds.{Holds, reads-contents}
+use Rattle.demands.specs.Worlds.{Faithful, reads-contents}
 
 -- ---- a sound state
 
@@ -45,7 +45,7 @@ module _ (s : Lent) (z : shaped s ≡ true) (e : sound s ≡ true) where
 
     begin-reads : (l : ℕ) → l < s .head .logical → reads s f l ≡ contents (deviceOf s) f l
     begin-reads l h =
-        ap (λ (x : Lent). reads x f l) (sym (device-is s z e)) ∙ reads-contents (deviceOf s) f (device-good s z e) l (omega (arith, device-lines s))
+        ap (λ (x : Lent). reads x f l) (sym (device-is s z e)) ∙ reads-contents (deviceOf s) f (device-storable s z e) l (omega (arith, device-lines s))
 
     begin-says : (l : ℕ) → contents (deviceOf s) f l ≡ getD (tabulate (s .head .logical) (reads s f)) l hole
     unfolding contents
@@ -60,13 +60,13 @@ module _ (s : Lent) (z : shaped s ≡ true) (e : sound s ≡ true) where
     unfolding begin deviceOf
     begin-is = ap (λ (x : Lent). record { state = x; flash = f; programmed = tabulate (s .head .blocks) (fillOf s); table = tabulate (s .head .logical) (reads s f) }) (sym (device-is s z e))
 
-    pub begin-holds : Holds (s .head .logical) (begin s f)
+    pub begin-holds : Faithful (s .head .logical) (begin s f)
     begin-holds = record {
       device = deviceOf s;
       flash = f;
       table = tabulate (s .head .logical) (reads s f);
       is = begin-is;
-      good = device-good s z e;
+      storable = device-storable s z e;
       lines = device-lines s;
       agrees = record { clean = begin-clean; size = length-tabulate (s .head .logical) (reads s f) ∙ sym (device-lines s); says = begin-says };
     }
@@ -92,9 +92,9 @@ module _ (b n l m : ℕ) (z : sizes b n l m ≡ true) where
   is-sized : Sizes b n l m
   is-sized = sizes-true b n l m z
 
-  fresh-good : Good (freshDevice b n l m)
+  fresh-storable : Storable (freshDevice b n l m)
   unfolding freshDevice extents
-  fresh-good = record {
+  fresh-storable = record {
     sizes = rw (fresh-blocks b n l m, fresh-lines b n l m) is-sized;
     sound = fresh-sound b n l m (is-sized .n-low) (omega (arith, is-sized .b-low)) (pages-fit is-sized);
     few = omega (arith, ap length (runs-holes n 0 l));
@@ -111,7 +111,7 @@ module _ (b n l m : ℕ) (z : sizes b n l m ≡ true) where
         state = s;
         flash = f;
         programmed = every (blocks d) 0 (fillOf s) (λ c h. words-fill d c ∙ fresh-fill b n l m c) i;
-        table = every (lines d) hole (reads s f) (λ k h. reads-contents d f fresh-good k h ∙ see-hole f (at d k) (fresh-at b n l m k)) i;
+        table = every (lines d) hole (reads s f) (λ k h. reads-contents d f fresh-storable k h ∙ see-hole f (at d k) (fresh-at b n l m k)) i;
       }
 
 -- an accepted fresh leaves the words of that device, whatever was lent
@@ -124,8 +124,8 @@ module _ (b n l m : ℕ) (es bs ss : List ℕ) (e : fresh b n l m es bs ss .refu
       let fit = lengths b n m (length es) (length bs) (length ss) in
       (and-split size fit (not-false (size && fit) (refuse-none (not (size && fit)) Refusal.Shape 0 (p .0) .0)) .0, p .1)
 
-  pub made-good : Good (freshDevice b n l m)
-  made-good = fresh-good b n l m (leaves .0)
+  pub made-storable : Storable (freshDevice b n l m)
+  made-storable = fresh-storable b n l m (leaves .0)
 
   pub made-begins : let s = fresh b n l m es bs ss .after in beginFresh s ≡ begin s (erasedFlash s)
   made-begins = subst (λ (s : Lent). beginFresh s ≡ begin s (erasedFlash s)) (sym (leaves .1)) (fresh-begins b n l m (leaves .0))
@@ -133,4 +133,4 @@ module _ (b n l m : ℕ) (es bs ss : List ℕ) (e : fresh b n l m es bs ss .refu
   -- a sound state
   pub fresh-leaves-sound : (shaped (fresh b n l m es bs ss .after) ≡ true) × (sound (fresh b n l m es bs ss .after) ≡ true)
   unfolding fresh
-  fresh-leaves-sound = make-sound (fromSizes b n l m) es bs ss made-good e
+  fresh-leaves-sound = make-sound (fromSizes b n l m) es bs ss made-storable e

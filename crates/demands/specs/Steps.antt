@@ -11,7 +11,7 @@ use Rattle.rules.specs.Reclaim.{reclaimedAt, reclaimed}
 use Rattle.rules.specs.Request.{withTable, numbered, written, trimmed}
 use Rattle.rules.specs.Calls.{Call, refusal, leaves, call}
 use Rattle.laws.specs.Placed.{puts-pages}
-use Rattle.laws.specs.Kept.{taken, accepted-in}
+use Rattle.laws.specs.Kept.{refusal-taken, accepted-in}
 use Rattle.demands.specs.Refusals.{refused-untouched}
 
 pub leaves-pages : (c : Call) (d : Device) → leaves c d .pages ≡ d .pages
@@ -24,8 +24,8 @@ leaves-pages Call.report d = refl
 
 leaves-last : (c : Call) (d : Device) → refusal c d ≡ 0 → d .last .number ≤ leaves c d .last .number
 unfolding leaves written numbered withTable trimmed reclaimed reclaimedAt
-leaves-last (Call.write k l n out) d e = omega (arith, taken (Call.write k l n out) d e .newer)
-leaves-last (Call.trim k l n) d e = omega (arith, taken (Call.trim k l n) d e .newer)
+leaves-last (Call.write k l n out) d e = omega (arith, refusal-taken (Call.write k l n out) d e .newer)
+leaves-last (Call.trim k l n) d e = omega (arith, refusal-taken (Call.trim k l n) d e .newer)
 leaves-last (Call.read l n out) d e = omega arith
 leaves-last (Call.reclaim out) d e = omega arith
 leaves-last Call.report d e = omega arith

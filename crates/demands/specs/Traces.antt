@@ -15,11 +15,11 @@ use Rattle.demands.specs.Host.{Ask, Op, ops, does, doing, marks, marking
 use Rattle.demands.specs.Demand2.{trace, onto, erasing, erases, NotTwice, InOrder}
 use Rattle.demands.specs.Steps.{call-pages}
 use Rattle.demands.specs.Listed.{allowed-append}
-use Rattle.demands.specs.Worlds.{Holds, step-holds, step-allowed}
+use Rattle.demands.specs.Worlds.{Faithful, step-holds, step-allowed}
 
 -- ---- a history's steps, one after the other
 
-pub trace-allowed : (m : ℕ) (asks : List Ask) (w : World) → Holds m w → AllAllowed (w .state .head .pages) (trace asks w) (w .flash) (w .programmed)
+pub trace-allowed : (m : ℕ) (asks : List Ask) (w : World) → Faithful m w → AllAllowed (w .state .head .pages) (trace asks w) (w .flash) (w .programmed)
 unfolding trace step
 trace-allowed m [] w h = tt
 trace-allowed m (a ∷ rest) w h =

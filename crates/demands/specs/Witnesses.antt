@@ -18,8 +18,8 @@ use Rattle.rules.specs.Request.{kept}
 use Rattle.rules.specs.Opened.{opened}
 use Rattle.rules.specs.declared.Refusal.{Refusal}
 use Rattle.laws.specs.Cells.{replicate-at}
-use Rattle.laws.specs.Sane.{Good}
-use Rattle.laws.specs.Kept.{device-good}
+use Rattle.laws.specs.Sound.{Storable}
+use Rattle.laws.specs.Kept.{device-storable}
 use Rattle.demands.specs.Flash.{Cell, erased, see}
 use Rattle.demands.specs.Host.{Ask, Op, programs, copies, toDo, ops, does, doing, marks, marking, shown, reads, World, step, run, ErasedFromFill, begin}
 use Rattle.demands.specs.Requests.{carries}
@@ -105,8 +105,8 @@ pub record Met : Type 0 where
   pub is-shaped : shaped sound3 ≡ true
   pub is-sound : sound sound3 ≡ true
   pub is-erased : ErasedFromFill sound3 blank
-  -- demand 2 of a make: one whose device is good and holds pages, accepted on words that held something else, with such a flash; and one that is refused
-  pub is-good : Good (restoring .device)
+  -- demand 2 of a make: one whose device is storable and holds pages, accepted on words that held something else, with such a flash; and one that is refused
+  pub is-storable : Storable (restoring .device)
   pub make-accepted : restored .refusal ≡ 0
   pub make-mapped : at (restoring .device) 9 ≡ 11
   pub make-erased : ErasedFromFill (restored .after) blank
@@ -138,7 +138,7 @@ met = record {
   is-shaped = refl;
   is-sound = refl;
   is-erased = record { whole = refl; blank = λ b o h k i. replicate-at Cell.erased 64 (b * 16 + o) };
-  is-good = device-good sound3 refl refl;
+  is-storable = device-storable sound3 refl refl;
   make-accepted = refl;
   make-mapped = refl;
   make-erased = record { whole = refl; blank = λ b o h k i. replicate-at Cell.erased 64 (b * 16 + o) };

@@ -13,7 +13,7 @@ use Rattle.rules.specs.Device.{Device, blocks, lines, at, room, free, valid, ma
 use Rattle.rules.specs.Placement.{putAt, putsAt, placesAt, targets, puts, places, pieces}
 use Rattle.rules.specs.Request.{withTable, trimmed}
 use Rattle.laws.specs.Sums.{count-none}
-use Rattle.laws.specs.Device.{Sound, none-block}
+use Rattle.laws.specs.Device.{SoundDevice, none-block}
 use Rattle.laws.specs.Balance
 use Rattle.laws.specs.Lines.{trimmed-sound, trimmed-in}
 use Rattle.laws.specs.Placed.{puts-table}
@@ -102,7 +102,7 @@ module _ (k l n : ℕ) (d : Device) where
   over-valid c = rw (over-table, alike-puts l n (trimmed k l n d) d trimmed-alike .pages)
 
   -- the trim has taken the range out of every block's count, and the write adds what each block takes
-  pub over-rise : Sound d → n ≤ free d → l + n ≤ lines d → (c : ℕ) → c < blocks d
+  pub over-rise : SoundDevice d → n ≤ free d → l + n ≤ lines d → (c : ℕ) → c < blocks d
       → valid (puts l n d) c ≡ valid (trimmed k l n d) c + count n (λ i. eqb (getD (targets l n d) i 0) c)
   unfolding puts trimmed withTable
   over-rise s f h c z =

@@ -12,7 +12,7 @@ use Rattle.rules.specs.Counting.{one, sum, count}
 use Rattle.rules.specs.Extents.{none}
 use Rattle.rules.specs.Device.{Device, blocks, lines, at, fill, label, mapped, named, valid, staleIn, stale, live, room, free}
 use Rattle.laws.specs.Sums.{sum-same, sum-add, sum-const, sum-zero, sum-change, sum-one, sum-swap, count-sum, count-same, count-not, count-le}
-use Rattle.laws.specs.Device.{Sound, same-block, same-offset, page-lt, offset-lt, none-block, home-block}
+use Rattle.laws.specs.Device.{SoundDevice, same-block, same-offset, page-lt, offset-lt, none-block, home-block}
 use Rattle.laws.specs.Live.{liveAt, named-line, named-live}
 
 pub room-other : (d : Device) (b : ℕ) → (b ≡ d .reserve → ⊥) → room d b ≡ d .pages - fill d b
@@ -27,7 +27,7 @@ pub live-le : (d : Device) → live d ≤ lines d
 unfolding live
 live-le d = count-le (lines d) (mapped d)
 
-module _ (d : Device) (s : Sound d) where
+module _ (d : Device) (s : SoundDevice d) where
   -- ---- the mapped pages of a block are its live pages
 
   -- a line has a page of block b iff its page is one of the programmed ones

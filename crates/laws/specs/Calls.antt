@@ -1,4 +1,4 @@
--- A call on the words of a good device is the call on the plain device, its device as words; and what a call does with words that are of no such device.
+-- A call on the words of a storable device is the call on the plain device, its device as words; and what a call does with words that are of no such device.
 use Prim.Native.Nat.{ℕ}
 use mathlib.Core.Bool.{false}
 use mathlib.Core.Path.{_≡_, refl, ap}
@@ -10,13 +10,13 @@ use Rattle.rules.specs.Calls.{Call, refusal, counts, leaves, lists, buffer, ove
 use Rattle.rules.specs.declared.Refusal.{Refusal}
 use lib.Dec.{eqb}
 use Rattle.laws.specs.Bools.{cases}
-use Rattle.laws.specs.Sane.{Good}
-use Rattle.laws.specs.States.{words-device, good-shaped, good-sound}
+use Rattle.laws.specs.Sound.{Storable}
+use Rattle.laws.specs.States.{words-device, storable-shaped, storable-sound}
 
-module _ (c : Call) (d : Device) (g : Good d) where
+module _ (c : Call) (d : Device) (g : Storable d) where
   pub verdict-words : verdict c (wordsOf d) ≡ refusal c d
   unfolding tested refuse
-  verdict-words = rw (good-shaped d g, good-sound d g) (ap (refusal c) (words-device d g))
+  verdict-words = rw (storable-shaped d g, storable-sound d g) (ap (refusal c) (words-device d g))
 
   accepted-words : acceptedOn c (wordsOf d) ≡ encoded (accepted c d)
   unfolding acceptedOn accepted encoded

@@ -141,13 +141,13 @@ module _ {A : Type 0} (z : A) where
 
   -- ---- cells copied one after the other
 
-  unfoldable pub copies : ℕ → List ℕ → List A → List A
-  copies a [] xs = xs
-  copies a (p ∷ ps) xs = copies (suc a) ps (set xs a (getD xs p z))
+  unfoldable pub copiesInto : ℕ → List ℕ → List A → List A
+  copiesInto a [] xs = xs
+  copiesInto a (p ∷ ps) xs = copiesInto (suc a) ps (set xs a (getD xs p z))
 
   -- no cell is read after it was stored
-  pub copies-copied : (ps : List ℕ) (a : ℕ) (xs : List A) → ((i : ℕ) → i < length ps → a ≤ getD ps i 0 → getD ps i 0 < a + length ps → ⊥) → copies a ps xs ≡ copied z a ps xs
-  unfolding copies copied
+  pub copies-copied : (ps : List ℕ) (a : ℕ) (xs : List A) → ((i : ℕ) → i < length ps → a ≤ getD ps i 0 → getD ps i 0 < a + length ps → ⊥) → copiesInto a ps xs ≡ copied z a ps xs
+  unfolding copiesInto copied
   copies-copied [] a xs h = refl
   copies-copied (p ∷ ps) a xs h =
       let xs′ = set xs a (getD xs p z) in

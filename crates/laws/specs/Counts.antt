@@ -16,9 +16,9 @@ use Rattle.rules.specs.declared.Extent.{Extent}
 use Rattle.laws.specs.Bools.{cases, never}
 use Rattle.laws.specs.Sums.{one-le}
 use Rattle.laws.specs.Rows.{Rows, rows-le, lookup-in, lookup-after}
-use Rattle.laws.specs.Runs.{joinable-true, joinable-first, join-joined, join-apart, join-length, runs-hole, runs-page, runs-rows, runs-lookup, Words}
+use Rattle.laws.specs.Runs.{joinable-true, joinable-first, join-joined, join-apart, join-length, runs-hole, runs-page, runs-rows, runs-lookup, WordLines}
 use Rattle.laws.specs.Cut.{below, from, cut, below-none, below-part, below-all, from-none, from-part, from-all, below-rows, from-rows, from-lookup}
-use Rattle.laws.specs.Trim.{trim-cut}
+use Rattle.laws.specs.Trim.{cut-trims}
 use Rattle.laws.specs.Write.{glue, place, write-place}
 use Rattle.laws.specs.Slots.{slots-more}
 
@@ -117,10 +117,10 @@ cut-length n hi a b es h =
     omega (arith, length-append (below a es) (from b es), below-length n hi a es 0 none h, from-length n hi b es 0 none h)
 
 -- a trim of c lines from l on
-pub trim-count : (n : ℕ) → 0 < n → (l c : ℕ) (t : List ℕ) → 0 < c → l + c ≤ length t → Words t
+pub trim-count : (n : ℕ) → 0 < n → (l c : ℕ) (t : List ℕ) → 0 < c → l + c ≤ length t → WordLines t
     → length (runs n 0 (sets t l (replicate c none))) ≡ startsBefore l (runs n 0 t) + endsAfter (l + c) (runs n 0 t)
 trim-count n z l c t p f w =
-    ap length (sym (trim-cut n z l c t p f w))
+    ap length (sym (cut-trims n z l c t p f w))
     ∙ cut-length n (length t) l (l + c) (runs n 0 t) (runs-rows n z t 0 (length t) w (omega arith))
 
 -- ---- the write: where new extents meet what lies after them
@@ -309,7 +309,7 @@ unfolding joinable
 left-same n l p c d es = refl
 
 -- the pages v, vs stored from line a on
-pub write-count : (n : ℕ) → 0 < n → (a v : ℕ) (vs t : List ℕ) → a + length (v ∷ vs) ≤ length t → Words (v ∷ vs) → Words t
+pub write-count : (n : ℕ) → 0 < n → (a v : ℕ) (vs t : List ℕ) → a + length (v ∷ vs) ≤ length t → WordLines (v ∷ vs) → WordLines t
     → (v ≡ none → ⊥) → (getD (v ∷ vs) (length vs) none ≡ none → ⊥)
     → (getD t a none ≡ v → v % n ≡ 0)
     → (getD t (a + length (v ∷ vs)) none ≡ getD (v ∷ vs) (length vs) none + 1 → (getD (v ∷ vs) (length vs) none + 1) % n ≡ 0)

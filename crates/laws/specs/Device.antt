@@ -18,7 +18,7 @@ pub record Home (d : Device) (l p : ℕ) : Type 0 where
   pub below : offset < fill d block
   pub labelled : label d p ≡ l
 
-pub record Sound (d : Device) : Type 0 where
+pub record SoundDevice (d : Device) : Type 0 where
   pub some : 0 < d .pages
   pub words : blocks d * d .pages ≤ none
   pub whole : length (d .spare) ≡ blocks d * d .pages
@@ -44,7 +44,7 @@ same-block n b c o q h k e = sym (digits-div b h) ∙ ap (λ (x : ℕ). x / n) e
 pub same-offset : (n b c o q : ℕ) → o < n → q < n → b * n + o ≡ c * n + q → o ≡ q
 same-offset n b c o q h k e = sym (digits-mod b h) ∙ ap (λ (x : ℕ). x % n) e ∙ digits-mod c k
 
-module _ (d : Device) (s : Sound d) where
+module _ (d : Device) (s : SoundDevice d) where
   pub page-lt : (b o : ℕ) → b < blocks d → o < d .pages → b * d .pages + o < none
   page-lt b o h k = omega (arith, digits-lt {q = b} {m = blocks d} {r = o} {c = d .pages} h k, s .words)
 

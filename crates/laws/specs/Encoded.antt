@@ -14,17 +14,17 @@ use Rattle.rules.specs.Reclaim.{victim, goes, reclaimedAt, reclaimed}
 use Rattle.laws.specs.Cells.{block-le}
 use Rattle.laws.specs.Runs.{runs-rows, runs-lookup, runs-length}
 use Rattle.laws.specs.Cut.{cut}
-use Rattle.laws.specs.Trim.{trim-cut}
+use Rattle.laws.specs.Trim.{cut-trims}
 use Rattle.laws.specs.Write.{place, write-place}
 use Rattle.laws.specs.Norm.{norm, norm-length, move, Steadies, move-runs, goes-moves, movesTo-steadies}
-use Rattle.laws.specs.Device.{Sound, none-block}
+use Rattle.laws.specs.Device.{SoundDevice, none-block}
 use Rattle.laws.specs.Placed.{Opens, puts-table, puts-pages, length-places, places-small}
 use Rattle.laws.specs.States.{table-lines}
 use Rattle.laws.specs.Reclaimed.{goes-hole, within}
 use Rattle.laws.specs.Gains.{victim-chosen}
 
 -- a write: the pieces of the answer, put in between what lies below the range and what lies above it
-pub write-extents : (l : ℕ) (bs : List ℕ) (d : Device) → Sound d → Opens l bs d → l + length bs ≤ lines d
+pub write-extents : (l : ℕ) (bs : List ℕ) (d : Device) → SoundDevice d → Opens l bs d → l + length bs ≤ lines d
     → place (d .pages) l (l + length bs) (runs (d .pages) l (placesAt l bs d)) (extents d) ≡ extents (putsAt l bs d)
 unfolding extents
 write-extents l bs d s v h =
@@ -32,12 +32,12 @@ write-extents l bs d s v h =
     let r = write-place (d .pages) (s .some) l (placesAt l bs d) (d .table) (omega arith) (places-small l bs d s v h) (table-lines d s) in
     rw (puts-pages l bs d, puts-table l bs d) (rw e at r)
 
-pub trim-extents : (k l n : ℕ) (d : Device) → Sound d → 0 < n → l + n ≤ lines d → cut l (l + n) (extents d) ≡ extents (trimmed k l n d)
+pub trim-extents : (k l n : ℕ) (d : Device) → SoundDevice d → 0 < n → l + n ≤ lines d → cut l (l + n) (extents d) ≡ extents (trimmed k l n d)
 unfolding extents trimmed withTable
-trim-extents k l n d s z h = trim-cut (d .pages) (s .some) l n (d .table) z h (table-lines d s)
+trim-extents k l n d s z h = cut-trims (d .pages) (s .some) l n (d .table) z h (table-lines d s)
 
 -- a reclaim: each extent moved whole, then joined
-pub reclaim-extents : (d : Device) → Sound d → (v : ℕ) → v < blocks d → (v ≡ d .reserve → ⊥)
+pub reclaim-extents : (d : Device) → SoundDevice d → (v : ℕ) → v < blocks d → (v ≡ d .reserve → ⊥)
     → norm (d .pages) (map (move (goes v (d .reserve) d)) (extents d)) ≡ extents (reclaimedAt v d)
 unfolding extents reclaimedAt
 reclaim-extents d s v a e =
@@ -58,7 +58,7 @@ unfolding extents
 extents-lines d = runs-length (d .pages) 0 (d .table)
 
 -- a reclaim needs no slot more
-pub reclaim-shrinks : (d : Device) → Sound d → 0 < stale d → length (extents (reclaimed d)) ≤ length (extents d)
+pub reclaim-shrinks : (d : Device) → SoundDevice d → 0 < stale d → length (extents (reclaimed d)) ≤ length (extents d)
 unfolding reclaimed
 reclaim-shrinks d s h =
     let c = victim-chosen d s h in

@@ -8,7 +8,7 @@ use Rattle.rules.specs.Device.{blocks, lines, at, fill, label, mapped, valid, s
 use Rattle.rules.specs.Calls.{freshDevice}
 use Rattle.laws.specs.Sums.{sum-zero, count-none}
 use Rattle.laws.specs.Cells.{replicate-at}
-use Rattle.laws.specs.Device.{Sound}
+use Rattle.laws.specs.Device.{SoundDevice}
 use Rattle.laws.specs.Balance.{valid-stale, balance′}
 
 module _ (b n l m : ℕ) where
@@ -37,7 +37,7 @@ module _ (b n l m : ℕ) where
   fresh-live = count-none (lines (freshDevice b n l m)) (mapped (freshDevice b n l m)) (λ k h. rw (fresh-at k))
 
 module _ (b n l m : ℕ) (some : 0 < n) (few : 0 < b) (words : b * n ≤ none) where
-  pub fresh-sound : Sound (freshDevice b n l m)
+  pub fresh-sound : SoundDevice (freshDevice b n l m)
   unfolding freshDevice
   fresh-sound = record {
     some = some;

@@ -12,7 +12,7 @@ use Rattle.rules.specs.Calls.{freshDevice}
 use Rattle.rules.specs.Request.{kept}
 use Rattle.rules.specs.declared.Head.{Head}
 use Rattle.rules.specs.declared.Extent.{Extent}
-use Rattle.laws.specs.Sane.{Sizes}
+use Rattle.laws.specs.Sound.{Sizes}
 use Rattle.laws.specs.Shapes.{some-pages, pages-fit}
 use Rattle.laws.specs.Runs.{runs-holes}
 use Rattle.laws.specs.Fresh.{fresh-valid, fresh-blocks, fresh-lines}

@@ -16,7 +16,7 @@ use Rattle.rules.specs.Reclaim.{victim, goes, reclaimedAt, reclaimed}
 use Rattle.laws.specs.Bools.{same-test}
 use Rattle.laws.specs.Sums.{sum-change, sum-zero, count-same, count-none, count-change}
 use Rattle.laws.specs.Picks.{most-lt, most-top, most-lowest}
-use Rattle.laws.specs.Device.{Sound, same-block}
+use Rattle.laws.specs.Device.{SoundDevice, same-block}
 use Rattle.laws.specs.Live.{named-by, named-label}
 use Rattle.laws.specs.Balance.{valid-stale, valid-le, stale-reserve, balance}
 use Rattle.laws.specs.Reclaimed.{re-last, re-reserve, re-slots, goes-within, nth, rank-lt, re-at, re-at-other, re-at-within, re-blocks, re-fill, re-fill-reserve, re-fill-victim, re-hole, re-lines, re-pages, re-some, re-sound, source, within}
@@ -25,7 +25,7 @@ use Rattle.laws.specs.Reclaimed.{re-last, re-reserve, re-slots, goes-wit
 unfoldable pub staleBlocks : Device → ℕ
 staleBlocks d = count (blocks d) (λ b. ltb 0 (staleIn d b))
 
-module _ (d : Device) (s : Sound d) (v : ℕ) (a : v < blocks d) (e : v ≡ d .reserve → ⊥) where
+module _ (d : Device) (s : SoundDevice d) (v : ℕ) (a : v < blocks d) (e : v ≡ d .reserve → ⊥) where
   pub re-mapped : (l : ℕ) → mapped (reclaimedAt v d) l ≡ mapped d l
   unfolding mapped
   re-mapped l =
@@ -106,7 +106,7 @@ pub record Chosen (d : Device) (v : ℕ) : Type 0 where
   pub top : (b : ℕ) → b < blocks d → staleIn d b ≤ staleIn d v
   pub lowest : (b : ℕ) → b < v → staleIn d b < staleIn d v
 
-pub victim-chosen : (d : Device) → Sound d → 0 < stale d → Chosen d (victim d)
+pub victim-chosen : (d : Device) → SoundDevice d → 0 < stale d → Chosen d (victim d)
 unfolding victim stale
 victim-chosen d s h =
     let gains : 0 < staleIn d (most (blocks d) (staleIn d)) =
@@ -122,7 +122,7 @@ victim-chosen d s h =
     }
 
 pub record Reclaimed (d e : Device) (v : ℕ) : Type 0 where
-  pub sound : Sound e
+  pub sound : SoundDevice e
   pub pages : e .pages ≡ d .pages
   pub blocks : length (e .fills) ≡ length (d .fills)
   pub lines : length (e .table) ≡ length (d .table)
@@ -134,7 +134,7 @@ pub record Reclaimed (d e : Device) (v : ℕ) : Type 0 where
   pub free : free e ≡ free d + staleIn d v
   pub staleBlocks : staleBlocks e + 1 ≡ staleBlocks d
 
-pub reclaim-all : (d : Device) → Sound d → 0 < stale d → Reclaimed d (reclaimed d) (victim d)
+pub reclaim-all : (d : Device) → SoundDevice d → 0 < stale d → Reclaimed d (reclaimed d) (victim d)
 unfolding reclaimed
 reclaim-all d s h =
     let c = victim-chosen d s h in

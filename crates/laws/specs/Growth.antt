@@ -13,7 +13,7 @@ use Rattle.rules.specs.Device.{Device, blocks, lines, at, fill, free, extents}
 use Rattle.rules.specs.Placement.{putAt, putsAt, placesAt, targets, puts, places, pieces}
 use Rattle.rules.specs.Request.{withTable, trimmed}
 use Rattle.laws.specs.Counts.{Begins, runs-first, startsBefore, endsAfter, leftJoin, trim-count, write-count, place-bound}
-use Rattle.laws.specs.Device.{Sound, same-block, same-offset, page-lt, offset-lt}
+use Rattle.laws.specs.Device.{SoundDevice, same-block, same-offset, page-lt, offset-lt}
 use Rattle.laws.specs.Placed.{Open, Opens, put-pages, put-fill, put-fill-other, put-one, puts-table, puts-pages, length-places, places-lt, places-small}
 use Rattle.laws.specs.Order.{length-targets, length-placed, targets-open, puts-all}
 use Rattle.laws.specs.Lines.{trimmed-lines}
@@ -31,7 +31,7 @@ pub record New (d : Device) (p : ℕ) : Type 0 where
   pub above : fill d block ≤ offset
   pub below : offset < d .pages
 
-fill-rises : (d : Device) (s : Sound d) (b : ℕ) (v : Open d b) (l : ℕ) (a : l < lines d) (c : ℕ) → fill d c ≤ fill (putAt b l d) c
+fill-rises : (d : Device) (s : SoundDevice d) (b : ℕ) (v : Open d b) (l : ℕ) (a : l < lines d) (c : ℕ) → fill d c ≤ fill (putAt b l d) c
 fill-rises d s b v l a c =
     by-cases (ℕ-discrete c b)
     (λ e. rw e (omega (arith, put-fill d s b v l a)))
@@ -48,7 +48,7 @@ new-before d e p n b f r = record {
   below = omega (arith, r .below);
 }
 
-pub places-new : (l : ℕ) (bs : List ℕ) (d : Device) → Sound d → Opens l bs d → l + length bs ≤ lines d → (i : ℕ) → i < length bs → New d (getD (placesAt l bs d) i none)
+pub places-new : (l : ℕ) (bs : List ℕ) (d : Device) → SoundDevice d → Opens l bs d → l + length bs ≤ lines d → (i : ℕ) → i < length bs → New d (getD (placesAt l bs d) i none)
 unfolding placesAt
 places-new l [] d s v h i t = absurd (omega arith)
 places-new l (b ∷ bs) d s v h zero t = record { block = b; offset = fill d b; is = refl; inside = v .0 .inside; above = omega arith; below = v .0 .below }
@@ -58,7 +58,7 @@ places-new l (b ∷ bs) d s v h (suc i) t =
     new-before d (putAt b l d) (getD (placesAt (suc l) bs (putAt b l d)) i none) (put-pages d s b (v .0) l a) (p .blocks) (fill-rises d s b (v .0) l a)
     (places-new (suc l) bs (putAt b l d) (p .sound) (v .1) (omega (arith, p .lines)) i (omega arith))
 
-module _ (d : Device) (s : Sound d) (p : ℕ) (w : New d p) (l : ℕ) where
+module _ (d : Device) (s : SoundDevice d) (p : ℕ) (w : New d p) (l : ℕ) where
   -- a page from the fill on has no line
   from-fill : (o : ℕ) → fill d (w .block) ≤ o → o < d .pages → at d l ≡ w .block * d .pages + o → ⊥
   from-fill o f k e =
@@ -90,7 +90,7 @@ abbrev pub firstPlace : ℕ → ℕ → Device → ℕ
 firstPlace l n d = getD (places l n d) 0 none
 
 -- lines l, l + 1, .. into some blocks, each open when its page comes
-pub puts-grow : (l : ℕ) (bs : List ℕ) (d : Device) → Sound d → Opens l bs d → 0 < length bs → l + length bs ≤ lines d
+pub puts-grow : (l : ℕ) (bs : List ℕ) (d : Device) → SoundDevice d → Opens l bs d → 0 < length bs → l + length bs ≤ lines d
     → length (extents (putsAt l bs d)) + leftJoin (d .pages) (extent l (getD (placesAt l bs d) 0 none) 1) (extents d)
     ≡ startsBefore l (extents d) + endsAfter (l + length bs) (extents d) + length (runs (d .pages) l (placesAt l bs d))
 unfolding extents placesAt
@@ -109,7 +109,7 @@ puts-grow l (b ∷ bs) d s v z h =
     (next-page d s (getD (first ∷ rest) (length rest) none) (new (length rest) (omega arith)) (l + length (first ∷ rest))) in
     rw (puts-pages l (b ∷ bs) d, puts-table l (b ∷ bs) d) (rw size at counted)
 
-puts-bound : (l : ℕ) (bs : List ℕ) (d : Device) → Sound d → Opens l bs d → l + length bs ≤ lines d → length (extents (putsAt l bs d)) ≤ length (extents d) + length bs + 1
+puts-bound : (l : ℕ) (bs : List ℕ) (d : Device) → SoundDevice d → Opens l bs d → l + length bs ≤ lines d → length (extents (putsAt l bs d)) ≤ length (extents d) + length bs + 1
 puts-bound l bs d s v h =
     let new = runs (d .pages) l (placesAt l bs d) in
     omega (
@@ -120,7 +120,7 @@ puts-bound l bs d s v h =
       length-places l bs d,
     )
 
-module _ (l n : ℕ) (d : Device) (s : Sound d) (f : n ≤ free d) (h : l + n ≤ lines d) where
+module _ (l n : ℕ) (d : Device) (s : SoundDevice d) (f : n ≤ free d) (h : l + n ≤ lines d) where
   opens : Opens l (targets l n d) d
   opens = targets-open l n d s f h
 
@@ -152,7 +152,7 @@ module _ (l n : ℕ) (d : Device) (s : Sound d) (f : n ≤ free d) (h : l + n �
   write-lines = omega (arith, extents-lines (puts l n d), puts-all l n d s f h .lines)
 
 -- a write of n pages from line l on
-pub write-grows : (l n : ℕ) (d : Device) → Sound d → 0 < n → n ≤ free d → l + n ≤ lines d
+pub write-grows : (l n : ℕ) (d : Device) → SoundDevice d → 0 < n → n ≤ free d → l + n ≤ lines d
     → length (extents (puts l n d)) + leftJoin (d .pages) (extent l (firstPlace l n d) 1) (extents d)
     ≡ startsBefore l (extents d) + endsAfter (l + n) (extents d) + length (pieces l n d)
 unfolding puts pieces places
@@ -162,7 +162,7 @@ write-grows l n d s z f h =
 
 -- ---- the trim
 
-module _ (k l n : ℕ) (d : Device) (s : Sound d) (z : 0 < n) (h : l + n ≤ lines d) where
+module _ (k l n : ℕ) (d : Device) (s : SoundDevice d) (z : 0 < n) (h : l + n ≤ lines d) where
   pub trim-grows : length (extents (trimmed k l n d)) ≡ startsBefore l (extents d) + endsAfter (l + n) (extents d)
   unfolding extents trimmed withTable
   trim-grows = trim-count (d .pages) (s .some) l n (d .table) z h (table-lines d s)

@@ -1,4 +1,4 @@
--- What it says that a call is accepted, that an accepted call leaves a good device, and that a refused one leaves everything.
+-- What it says that a call is accepted, that an accepted call leaves a storable device, and that a refused one leaves everything.
 use Prim.Native.Nat.{ℕ, _+_, _-_, _*_, _≤_, _<_}
 use mathlib.Core.Bool.{Bool, true, false, not, _||_}
 use mathlib.Core.Path.{_≡_, refl, sym, ap, _∙_}
@@ -21,15 +21,15 @@ use Rattle.rules.specs.Answers.{refuse}
 use Rattle.rules.specs.Calls.{Call, outside, tooMany, writeRefusal, trimRefusal, readRefusal, reclaimRefusal, refusal, leaves, refused, tested, verdict, acceptedOn, call}
 use Rattle.rules.specs.declared.Refusal.{Refusal}
 use Rattle.laws.specs.Bools.{or-split}
-use Rattle.laws.specs.Device.{Sound}
+use Rattle.laws.specs.Device.{SoundDevice}
 use Rattle.laws.specs.Placed.{puts-pages, puts-slots}
 use Rattle.laws.specs.Order.{puts-all}
 use Rattle.laws.specs.Lines.{written-sound, trimmed-lines, trimmed-sound}
 use Rattle.laws.specs.Gains.{reclaim-all}
 use Rattle.laws.specs.Encoded.{reclaim-shrinks}
 use Rattle.laws.specs.Balance.{balance′}
-use Rattle.laws.specs.States.{device-blocks, good-shaped, good-sound, sound-iff}
-use Rattle.laws.specs.Sane.{Sizes, Good}
+use Rattle.laws.specs.States.{device-blocks, storable-shaped, storable-sound, sound-iff}
+use Rattle.laws.specs.Sound.{Sizes, Storable}
 
 -- ---- the refusals, one after the other
 
@@ -122,9 +122,9 @@ Taken (Call.read l n out) d = ReadTaken l n out d
 Taken (Call.reclaim out) d = ReclaimTaken out d
 Taken Call.report d = Unit {0}
 
-pub taken : (c : Call) (d : Device) → refusal c d ≡ 0 → Taken c d
+pub refusal-taken : (c : Call) (d : Device) → refusal c d ≡ 0 → Taken c d
 unfolding refusal writeRefusal trimRefusal readRefusal reclaimRefusal
-taken (Call.write k l n out) d e =
+refusal-taken (Call.write k l n out) d e =
     let a = refuse-none (outside l n d || ltb (d .pages) n) Refusal.Range _ e in
     let b = judged-none k d _ (a .1) in
     let c = refuse-none (ltb (free d) n) Refusal.NoPages _ (b .1) in
@@ -139,21 +139,21 @@ taken (Call.write k l n out) d e =
       nodes = fits (puts l n d) (x .0);
       room = ltb-false (length out) (3 * length (pieces l n d)) (y .0);
     }
-taken (Call.trim k l n) d e =
+refusal-taken (Call.trim k l n) d e =
     let a = refuse-none (outside l n d) Refusal.Range _ e in
     let b = judged-none k d _ (a .1) in
     let x = refuse-none (tooMany (trimmed k l n d)) Refusal.NoNodes 0 (b .1) in
     record { range = in-range l n d (a .0); newer = b .0; nodes = fits (trimmed k l n d) (x .0) }
-taken (Call.read l n out) d e =
+refusal-taken (Call.read l n out) d e =
     let a = refuse-none (outside l n d) Refusal.Range _ e in
     let y = refuse-none (ltb (length out) (3 * length (found l n d))) Refusal.OutShort 0 (a .1) in
     record { range = in-range l n d (a .0); room = ltb-false (length out) (3 * length (found l n d)) (y .0) }
-taken (Call.reclaim out) d e =
+refusal-taken (Call.reclaim out) d e =
     let a = refuse-none (eqb (stale d) 0) Refusal.NothingStale _ e in
     let y = refuse-none (ltb (length out) (length (sources (victim d) d))) Refusal.OutShort 0 (a .1) in
     let z = eqb-false (stale d) 0 (a .0) in
     record { gains = omega arith; room = ltb-false (length out) (length (sources (victim d) d)) (y .0) }
-taken Call.report d e = tt
+refusal-taken Call.report d e = tt
 
 pub passes : (c : Call) (d : Device) → Taken c d → refusal c d ≡ 0
 unfolding refusal writeRefusal trimRefusal readRefusal reclaimRefusal
@@ -175,37 +175,37 @@ passes (Call.reclaim out) d t =
     (refuse-pass (ltb (length out) (length (sources (victim d) d))) Refusal.OutShort 0 (le-ltb (length out) (length (sources (victim d) d)) (t .room)) refl)
 passes Call.report d t = refl
 
--- ---- what an accepted call leaves is good
+-- ---- what an accepted call leaves is storable
 
 sizes-same : (d e : Device) → e .pages ≡ d .pages → e .slots ≡ d .slots → blocks e ≡ blocks d → lines e ≡ lines d
     → Sizes (blocks d) (d .pages) (lines d) (d .slots) → Sizes (blocks e) (e .pages) (lines e) (e .slots)
 sizes-same d e p m b l z = rw (p, m, b, l) z
 
 -- the number is no part of the map
-numbered-good : (k : ℕ) (e : Device) → Sizes (blocks e) (e .pages) (lines e) (e .slots) → length (extents e) ≤ e .slots → Sound (numbered k e) → Good (numbered k e)
+numbered-storable : (k : ℕ) (e : Device) → Sizes (blocks e) (e .pages) (lines e) (e .slots) → length (extents e) ≤ e .slots → SoundDevice (numbered k e) → Storable (numbered k e)
 unfolding numbered withTable extents
-numbered-good k e z f s = record { sizes = z; sound = s; few = f }
+numbered-storable k e z f s = record { sizes = z; sound = s; few = f }
 
 trimmed-sizes : (k l n : ℕ) (d : Device) → Sizes (blocks d) (d .pages) (lines d) (d .slots)
     → Sizes (blocks (trimmed k l n d)) (trimmed k l n d .pages) (lines (trimmed k l n d)) (trimmed k l n d .slots)
 unfolding trimmed withTable
 trimmed-sizes k l n d z = sizes-same d (trimmed k l n d) refl refl refl (trimmed-lines k l n d) z
 
-pub keeps : (c : Call) (d : Device) → Good d → refusal c d ≡ 0 → Good (leaves c d)
+pub keeps : (c : Call) (d : Device) → Storable d → refusal c d ≡ 0 → Storable (leaves c d)
 unfolding leaves written puts
 keeps (Call.write k l n out) d g e =
-    let t = taken (Call.write k l n out) d e in
+    let t = refusal-taken (Call.write k l n out) d e in
     let p = puts-all l n d (g .sound) (t .pages) (t .range .inside) in
-    numbered-good k (puts l n d)
+    numbered-storable k (puts l n d)
     (sizes-same d (puts l n d) (puts-pages l (targets l n d) d) (puts-slots l (targets l n d) d) (p .blocks) (p .lines) (g .sizes))
     (t .nodes)
     (written-sound k l n d (g .sound) (t .pages) (t .range .inside))
 keeps (Call.trim k l n) d g e =
-    let t = taken (Call.trim k l n) d e in
+    let t = refusal-taken (Call.trim k l n) d e in
     record { sizes = trimmed-sizes k l n d (g .sizes); sound = trimmed-sound k l n d (g .sound) (t .range .inside); few = t .nodes }
 keeps (Call.read l n out) d g e = g
 keeps (Call.reclaim out) d g e =
-    let t = taken (Call.reclaim out) d e in
+    let t = refusal-taken (Call.reclaim out) d e in
     let r = reclaim-all d (g .sound) (t .gains) in
     record {
       sizes = sizes-same d (reclaimed d) (r .pages) (r .slots) (r .blocks) (r .lines) (g .sizes);
@@ -218,8 +218,8 @@ keeps Call.report d g e = g
 
 -- a sound state's words are those of its device
 module _ (s : Lent) (z : shaped s ≡ true) (e : sound s ≡ true) where
-  pub device-good : Good (deviceOf s)
-  device-good = sound-iff s z .0 e .0
+  pub device-storable : Storable (deviceOf s)
+  device-storable = sound-iff s z .0 e .0
 
   pub device-is : wordsOf (deviceOf s) ≡ s
   device-is = sound-iff s z .0 e .1
@@ -227,7 +227,7 @@ module _ (s : Lent) (z : shaped s ≡ true) (e : sound s ≡ true) where
   -- 01, a sound state: free + live + stale = (B - 1) x N
   pub three-counts : free (deviceOf s) + live (deviceOf s) + stale (deviceOf s) ≡ (s .head .blocks - 1) * s .head .pages
   unfolding deviceOf
-  three-counts = balance′ (deviceOf s) (device-good .sound) ∙ ap (λ (b : ℕ). (b - 1) * s .head .pages) (device-blocks s)
+  three-counts = balance′ (deviceOf s) (device-storable .sound) ∙ ap (λ (b : ℕ). (b - 1) * s .head .pages) (device-blocks s)
 
 pub call-verdict : (c : Call) (s : Lent) → call c s .refusal ≡ verdict c s
 unfolding call acceptedOn refused
@@ -255,7 +255,7 @@ pub accepted-sound : (c : Call) (s : Lent) → call c s .refusal ≡ 0 → (shap
 accepted-sound c s e =
     let a = accepted-in c s e in
     let d = leaves c (deviceOf s) in
-    let g : Good d = keeps c (deviceOf s) (device-good s (a .shape) (a .whole)) (a .plainly) in
-    (ap shaped (a .after) ∙ good-shaped d g, ap sound (a .after) ∙ good-sound d g)
+    let g : Storable d = keeps c (deviceOf s) (device-storable s (a .shape) (a .whole)) (a .plainly) in
+    (ap shaped (a .after) ∙ storable-shaped d g, ap sound (a .after) ∙ storable-sound d g)
 
 -- ---- each rule allows one outcome: that of `call` for the five calls on a lent state, that of `fresh` for the sixth

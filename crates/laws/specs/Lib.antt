@@ -23,11 +23,11 @@ pub mod Reclaimed
 pub mod Gains
 pub mod Valid
 pub mod Fresh
-pub mod Sane
+pub mod Sound
 pub mod Shapes
 pub mod FreshWords
 pub mod Ranked
-pub mod Sanes
+pub mod Sounds
 pub mod Tallies
 pub mod Records
 pub mod States

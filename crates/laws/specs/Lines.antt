@@ -15,11 +15,11 @@ use Rattle.rules.specs.Device.{Device, blocks, lines, at, label, room, mapped, 
 use Rattle.rules.specs.Placement.{puts}
 use Rattle.rules.specs.Request.{withTable, numbered, written, trimmed}
 use Rattle.laws.specs.Cells.{sets-in, sets-other, replicate-at, count-wiped}
-use Rattle.laws.specs.Device.{Sound}
+use Rattle.laws.specs.Device.{SoundDevice}
 use Rattle.laws.specs.Order.{puts-all}
 
 -- lines may become holes
-pub fewer-sound : (t : List ℕ) (k : ℕ) (d : Device) → Sound d → length t ≡ lines d → ((l : ℕ) → (getD t l none ≡ none → ⊥) → getD t l none ≡ at d l) → Sound (withTable t k d)
+pub fewer-sound : (t : List ℕ) (k : ℕ) (d : Device) → SoundDevice d → length t ≡ lines d → ((l : ℕ) → (getD t l none ≡ none → ⊥) → getD t l none ≡ at d l) → SoundDevice (withTable t k d)
 unfolding withTable
 fewer-sound t k d s e same = record {
   some = s .some;
@@ -38,11 +38,11 @@ pub fewer-free : (t : List ℕ) (k : ℕ) (d : Device) → free (withTable t k d
 unfolding withTable free room
 fewer-free t k d = refl
 
-pub numbered-sound : (k : ℕ) (d : Device) → Sound d → Sound (numbered k d)
+pub numbered-sound : (k : ℕ) (d : Device) → SoundDevice d → SoundDevice (numbered k d)
 unfolding numbered
 numbered-sound k d s = fewer-sound (d .table) k d s refl (λ l m. refl)
 
-pub written-sound : (k l n : ℕ) (d : Device) → Sound d → n ≤ free d → l + n ≤ lines d → Sound (written k l n d)
+pub written-sound : (k l n : ℕ) (d : Device) → SoundDevice d → n ≤ free d → l + n ≤ lines d → SoundDevice (written k l n d)
 unfolding written
 written-sound k l n d s f h = numbered-sound k (puts l n d) (puts-all l n d s f h .sound)
 
@@ -65,7 +65,7 @@ pub trimmed-free : (k l n : ℕ) (d : Device) → free (trimmed k l n d) ≡ fre
 unfolding trimmed
 trimmed-free k l n d = fewer-free (sets (d .table) l (replicate n none)) k d
 
-pub trimmed-sound : (k l n : ℕ) (d : Device) → Sound d → l + n ≤ lines d → Sound (trimmed k l n d)
+pub trimmed-sound : (k l n : ℕ) (d : Device) → SoundDevice d → l + n ≤ lines d → SoundDevice (trimmed k l n d)
 unfolding trimmed withTable
 trimmed-sound k l n d s f =
     fewer-sound (sets (d .table) l (replicate n none)) k d s (length-sets (d .table) l (replicate n none))

@@ -12,7 +12,7 @@ use Rattle.rules.specs.Extents.{none}
 use Rattle.rules.specs.Device.{Device, blocks, at, fill, label, named}
 use Rattle.laws.specs.Bools.{cases, never, same-test}
 use Rattle.laws.specs.Picks.{count-short}
-use Rattle.laws.specs.Device.{Sound, same-block, same-offset, page-lt, offset-lt}
+use Rattle.laws.specs.Device.{SoundDevice, same-block, same-offset, page-lt, offset-lt}
 
 -- ---- a number in a list
 
@@ -44,7 +44,7 @@ among-at x (z ∷ zs) y (suc l) e m = cases (eqb x z) (λ t. rw t) (λ t. rw t (
 unfoldable pub liveAt : Device → ℕ → ℕ → Bool
 liveAt d b o = let p = b * d .pages + o in eqb (at d (label d p)) p
 
-module _ (d : Device) (s : Sound d) (b : ℕ) (h : b < blocks d) where
+module _ (d : Device) (s : SoundDevice d) (b : ℕ) (h : b < blocks d) where
   pub named-by : (o l : ℕ) → o < d .pages → at d l ≡ b * d .pages + o → named d b o ≡ true
   unfolding named
   named-by o l k e = among-at (b * d .pages + o) (d .table) none l e (λ g. omega (arith, page-lt d s b o h k))

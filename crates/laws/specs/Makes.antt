@@ -13,8 +13,8 @@ use Rattle.rules.specs.Sound.{sound}
 use Rattle.rules.specs.Device.{wordsOf}
 use Rattle.rules.specs.Answers.{Outcome}
 use Rattle.rules.specs.Makes.{Make, make}
-use Rattle.laws.specs.Sane.{Good}
-use Rattle.laws.specs.States.{good-shaped, good-sound}
+use Rattle.laws.specs.Sound.{Storable}
+use Rattle.laws.specs.States.{storable-shaped, storable-sound}
 
 module _ (a : Make) (extentWords blockWords spare : List ℕ) where
   pub make-accepts : a .refusal (length extentWords) (length blockWords) (length spare) ≡ 0 → (t : Lent) → t ≡ wordsOf (a .device)
@@ -35,7 +35,7 @@ module _ (a : Make) (extentWords blockWords spare : List ℕ) where
       let r = a .refusal (length extentWords) (length blockWords) (length spare) in
       by-cases (ℕ-discrete r 0) (λ z. (z, rw z)) (λ n. absurd (n (rw (ne-eqb r 0 n) at e)))
 
-  -- a sound state, where the device is good
-  pub make-sound : Good (a .device) → make a extentWords blockWords spare .refusal ≡ 0
+  -- a sound state, where the device is storable
+  pub make-sound : Storable (a .device) → make a extentWords blockWords spare .refusal ≡ 0
       → (shaped (make a extentWords blockWords spare .after) ≡ true) × (sound (make a extentWords blockWords spare .after) ≡ true)
-  make-sound g e = let p = make-leaves e .1 in (ap shaped p ∙ good-shaped (a .device) g, ap sound p ∙ good-sound (a .device) g)
+  make-sound g e = let p = make-leaves e .1 in (ap shaped p ∙ storable-shaped (a .device) g, ap sound p ∙ storable-sound (a .device) g)

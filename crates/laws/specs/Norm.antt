@@ -17,7 +17,7 @@ use Rattle.rules.specs.Reclaim.{goes}
 use Rattle.rules.specs.declared.Extent.{Extent}
 use Rattle.laws.specs.Sums.{count-le}
 use Rattle.laws.specs.Rows.{Row, Rows, lookup-before, lookup-in, lookup-after, lookup-cons, lookup-low, lookup-word, mod-shift, div-shift}
-use Rattle.laws.specs.Runs.{join-rows, join-lookup, join-length, runs-rows, runs-lookup, Words, encode}
+use Rattle.laws.specs.Runs.{join-rows, join-lookup, join-length, runs-rows, runs-lookup, WordLines, encode}
 
 -- extents in order, each in its block, joinable or not
 pub record Fits (n lo : ℕ) (e : Extent) : Type 0 where
@@ -83,7 +83,7 @@ move-lookup n g z (e ∷ es) l s =
     (λ b. lookup-in (move g e) (map (move g) es) l (omega arith) b ∙ sym (s .0 .along (l - e .logical) (omega arith)) ∙ ap g (sym (lookup-in e es l (omega arith) b)))
     (λ b. lookup-after (move g e) (map (move g) es) l (omega arith) ∙ move-lookup n g z es l (s .1) ∙ ap g (sym (lookup-after e es l (omega arith)))))
 
-pub move-runs : (n : ℕ) → 0 < n → (g : ℕ → ℕ) → g none ≡ none → (t : List ℕ) → Words t → Steadies n g (runs n 0 t)
+pub move-runs : (n : ℕ) → 0 < n → (g : ℕ → ℕ) → g none ≡ none → (t : List ℕ) → WordLines t → Steadies n g (runs n 0 t)
     → norm n (map (move g) (runs n 0 t)) ≡ runs n 0 (map g t)
 move-runs n z g eq t w s =
     encode n z (map g t) ys words (rw length-map sound) (λ l h. says l)
@@ -99,7 +99,7 @@ move-runs n z g eq t w s =
         norm-lookup n (map (move g) (runs n 0 t)) l ∙ move-lookup n g eq (runs n 0 t) l s ∙ ap g (runs-lookup n z t 0 l l w (omega arith))
         ∙ sym (List·getD-map g t l none) ∙ ap (getD (map g t) l) eq
 
-    words : Words (map g t)
+    words : WordLines (map g t)
     words i = omega (arith, says i, lookup-word n (length t) ys 0 none i sound)
 
 -- ---- the move of a reclaim: the live pages of block v, in physical order, to block r

@@ -21,10 +21,10 @@ use Rattle.rules.specs.declared.Extent.{Extent}
 use Rattle.laws.specs.Sums.{sum-change, sum-zero, count-first}
 use Rattle.laws.specs.Picks.{first-passes, first-least, first-found}
 use Rattle.laws.specs.Runs.{runs-page}
-use Rattle.laws.specs.Device.{Sound}
+use Rattle.laws.specs.Device.{SoundDevice}
 use Rattle.laws.specs.Balance.{room-other, room-reserve}
 use Rattle.laws.specs.Placed.{Open, Opens, Puts, room-open, put-one, puts-sound, length-places}
-use Rattle.laws.specs.Spread.{roomAt, taken, spread, filled, labelled, startOf, Leads, spread-step, spread-none, filled-step, filled-none, labelled-join, taken-open}
+use Rattle.laws.specs.Spread.{roomAt, taken, spread, filled, labelled, startBlock, Leads, spread-step, spread-none, filled-step, filled-none, labelled-join, taken-open}
 
 -- ---- the block that takes the next page
 
@@ -69,7 +69,7 @@ length-targets l zero d = refl
 length-targets l (suc n) d = ap suc (length-targets (suc l) n (putAt (target d) l d))
 
 -- while pages are free there is an open block
-pub targets-open : (l n : ℕ) (d : Device) → Sound d → n ≤ free d → l + n ≤ lines d → Opens l (targets l n d) d
+pub targets-open : (l n : ℕ) (d : Device) → SoundDevice d → n ≤ free d → l + n ≤ lines d → Opens l (targets l n d) d
 unfolding targets
 targets-open l zero d s f h = tt
 targets-open l (suc n) d s f h =
@@ -81,7 +81,7 @@ pub length-placed : (l n : ℕ) (d : Device) → length (places l n d) ≡ n
 unfolding places
 length-placed l n d = length-places l (targets l n d) d ∙ length-targets l n d
 
-pub puts-all : (l n : ℕ) (d : Device) → Sound d → n ≤ free d → l + n ≤ lines d → Puts d (puts l n d) n
+pub puts-all : (l n : ℕ) (d : Device) → SoundDevice d → n ≤ free d → l + n ≤ lines d → Puts d (puts l n d) n
 unfolding puts
 puts-all l n d s f h =
     let m = length-targets l n d in
@@ -116,10 +116,10 @@ target-leads d h =
     }
 
 -- the page that is taken first, and the device with it taken
-abbrev pub openPage : Device → ℕ
+abbrev openPage : Device → ℕ
 openPage d = target d * d .pages + fill d (target d)
 
-abbrev pub next : ℕ → Device → Device
+abbrev next : ℕ → Device → Device
 next l d = putAt (target d) l d
 
 put-blocks : (b l : ℕ) (d : Device) → blocks (putAt b l d) ≡ blocks d
@@ -194,8 +194,8 @@ puts-labelled (suc n) l d w f =
     ∙ labelled-join (d .pages) l (openPage d) (pieces (suc l) n (next l d)) (d .spare))
 
 -- where pages are free, the block that they start with is one of the device's
-pub start-inside : (d : Device) (want : ℕ) → 0 < want → want ≤ free d → startOf (d .pages) (d .reserve) (d .fills) want < blocks d
-unfolding startOf
+pub start-inside : (d : Device) (want : ℕ) → 0 < want → want ≤ free d → startBlock (d .pages) (d .reserve) (d .fills) want < blocks d
+unfolding startBlock
 start-inside d want h f =
     let v = target-open d (omega arith) in
     first-found (blocks d) (λ b. ltb 0 (taken (d .pages) (d .reserve) b (fill d b) want)) (target d) (v .inside)

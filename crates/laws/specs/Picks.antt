@@ -108,17 +108,17 @@ most-same (suc n) f g h =
 
 -- ---- those that pass, in order
 
-abbrev pub kept : ℕ → Bool → List ℕ
-kept i b = cond b (i ∷ []) []
+abbrev pub pickIf : ℕ → Bool → List ℕ
+pickIf i b = cond b (i ∷ []) []
 
-length-kept : (i : ℕ) (b : Bool) → length (kept i b) ≡ one b
+length-kept : (i : ℕ) (b : Bool) → length (pickIf i b) ≡ one b
 length-kept i true = refl
 length-kept i false = refl
 
 pub length-picks : (n : ℕ) (t : ℕ → Bool) → length (picks n t) ≡ count n t
 unfolding picks count
 length-picks zero t = refl
-length-picks (suc n) t = omega (arith, length-append (picks n t) (kept n (t n)), length-picks n t, length-kept n (t n))
+length-picks (suc n) t = omega (arith, length-append (picks n t) (pickIf n (t n)), length-picks n t, length-kept n (t n))
 
 -- none passes from n on
 pub picks-short : (n m : ℕ) (t : ℕ → Bool) → n ≤ m → ((i : ℕ) → n ≤ i → i < m → t i ≡ false) → picks m t ≡ picks n t
@@ -139,7 +139,7 @@ picks-at zero t k d s e = absurd (omega arith)
 picks-at (suc n) t k d s e =
     by-cases (ℕ-discrete k n)
     (λ h. let e′ : t n ≡ true = rw h at e in rw (h, e′) (getD-at (picks n t) n [] d (count n t) (length-picks n t)))
-    (λ h. List·getD-append (picks n t) (kept n (t n)) d (count k t) (omega (arith, length-picks n t, count-rise k n t (omega arith) e))
+    (λ h. List·getD-append (picks n t) (pickIf n (t n)) d (count k t) (omega (arith, length-picks n t, count-rise k n t (omega arith) e))
     ∙ picks-at n t k d (omega arith) e)
 
 -- and what stands at a place passes, with that many before it
@@ -154,7 +154,7 @@ picked zero t i d s = absurd (omega arith)
 picked (suc n) t i d s =
     by-cases (decLt i (count n t))
     (λ h. let r = picked n t i d h in
-    let g = List·getD-append (picks n t) (kept n (t n)) d i (omega (arith, length-picks n t)) in
+    let g = List·getD-append (picks n t) (pickIf n (t n)) d i (omega (arith, length-picks n t)) in
     rw g (record { below = omega (arith, r .below); passes = r .passes; place = r .place }))
     (λ h. cases (t n)
     (λ e. let f : count n t ≡ i = omega (arith, ap one e) in

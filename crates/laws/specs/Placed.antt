@@ -13,7 +13,7 @@ use Rattle.rules.specs.Extents.{none}
 use Rattle.rules.specs.Device.{Device, blocks, lines, at, fill, label, room, mapped, free}
 use Rattle.rules.specs.Placement.{putAt, putsAt, placesAt}
 use Rattle.laws.specs.Sums.{sum-change}
-use Rattle.laws.specs.Device.{Home, Sound, Blank, same-block, same-offset, page-lt, offset-lt}
+use Rattle.laws.specs.Device.{Home, SoundDevice, Blank, same-block, same-offset, page-lt, offset-lt}
 use Rattle.laws.specs.Balance.{room-other, room-reserve}
 
 -- ---- the block that takes the next page
@@ -31,7 +31,7 @@ room-open d b h r =
 
 -- ---- one page
 
-module _ (d : Device) (s : Sound d) (b : ℕ) (v : Open d b) (l : ℕ) (a : l < lines d) where
+module _ (d : Device) (s : SoundDevice d) (b : ℕ) (v : Open d b) (l : ℕ) (a : l < lines d) where
   pub put-pages : putAt b l d .pages ≡ d .pages
   unfolding putAt
   put-pages = refl
@@ -140,7 +140,7 @@ module _ (d : Device) (s : Sound d) (b : ℕ) (v : Open d b) (l : ℕ) (a : l < 
       (λ e. let t : o < fill d c = omega (arith, put-fill-other c e) in
       rw (put-label-other c o (omega (arith, s .full c h)) (λ x _. e x)) (s .labels c o h t)))
 
-  pub put-sound : Sound (putAt b l d)
+  pub put-sound : SoundDevice (putAt b l d)
   put-sound = record {
     some = rw put-pages (s .some);
     words = rw (put-blocks, put-pages) (s .words);
@@ -201,15 +201,15 @@ length-places l [] d = refl
 length-places l (b ∷ bs) d = ap suc (length-places (suc l) bs (putAt b l d))
 
 pub record Puts (d e : Device) (n : ℕ) : Type 0 where
-  pub sound : Sound e
+  pub sound : SoundDevice e
   pub blocks : length (e .fills) ≡ length (d .fills)
   pub lines : length (e .table) ≡ length (d .table)
   pub free : free e + n ≡ free d
 
-pub put-one : (b l : ℕ) (d : Device) → Sound d → Open d b → l < lines d → Puts d (putAt b l d) 1
+pub put-one : (b l : ℕ) (d : Device) → SoundDevice d → Open d b → l < lines d → Puts d (putAt b l d) 1
 put-one b l d s v h = record { sound = put-sound d s b v l h; blocks = put-blocks d s b v l h; lines = put-lines d s b v l h; free = put-free d s b v l h }
 
-pub puts-sound : (l : ℕ) (bs : List ℕ) (d : Device) → Sound d → Opens l bs d → l + length bs ≤ lines d → Puts d (putsAt l bs d) (length bs)
+pub puts-sound : (l : ℕ) (bs : List ℕ) (d : Device) → SoundDevice d → Opens l bs d → l + length bs ≤ lines d → Puts d (putsAt l bs d) (length bs)
 unfolding putsAt
 puts-sound l [] d s v h = record { sound = s; blocks = refl; lines = refl; free = omega arith }
 puts-sound l (b ∷ bs) d s v h =
@@ -224,7 +224,7 @@ places-block l [] d v i t = absurd (omega arith)
 places-block l (b ∷ bs) d v zero t = digits-div b (v .0 .below)
 places-block l (b ∷ bs) d v (suc i) t = places-block (suc l) bs (putAt b l d) (v .1) i (omega arith)
 
-pub places-lt : (l : ℕ) (bs : List ℕ) (d : Device) → Sound d → Opens l bs d → l + length bs ≤ lines d → (i : ℕ) → i < length bs → getD (placesAt l bs d) i none < none
+pub places-lt : (l : ℕ) (bs : List ℕ) (d : Device) → SoundDevice d → Opens l bs d → l + length bs ≤ lines d → (i : ℕ) → i < length bs → getD (placesAt l bs d) i none < none
 unfolding placesAt
 places-lt l [] d s v h i t = absurd (omega arith)
 places-lt l (b ∷ bs) d s v h zero t = page-lt d s b (fill d b) (v .0 .inside) (v .0 .below)
@@ -232,14 +232,14 @@ places-lt l (b ∷ bs) d s v h (suc i) t =
     let p = put-one b l d s (v .0) (omega arith) in
     places-lt (suc l) bs (putAt b l d) (p .sound) (v .1) (omega (arith, p .lines)) i (omega arith)
 
-pub places-small : (l : ℕ) (bs : List ℕ) (d : Device) → Sound d → Opens l bs d → l + length bs ≤ lines d → (i : ℕ) → getD (placesAt l bs d) i none ≤ none
+pub places-small : (l : ℕ) (bs : List ℕ) (d : Device) → SoundDevice d → Opens l bs d → l + length bs ≤ lines d → (i : ℕ) → getD (placesAt l bs d) i none ≤ none
 places-small l bs d s v h i =
     by-cases (decLt i (length bs))
     (λ t. omega (arith, places-lt l bs d s v h i t))
     (λ t. omega (arith, List·getD-eq-default (placesAt l bs d) none {n = i} (omega (arith, length-places l bs d))))
 
 -- a block with room for all of them may take them all
-pub block-open : (b l n : ℕ) (d : Device) → Sound d → b < blocks d → n ≤ room d b → l + n ≤ lines d → Opens l (replicate n b) d
+pub block-open : (b l n : ℕ) (d : Device) → SoundDevice d → b < blocks d → n ≤ room d b → l + n ≤ lines d → Opens l (replicate n b) d
 block-open b l zero d s h r f = tt
 block-open b l (suc n) d s h r f =
     let v = room-open d b h (omega arith) in

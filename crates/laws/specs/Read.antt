@@ -11,10 +11,10 @@ use Rattle.rules.specs.Extents.{none, runs}
 use Rattle.rules.specs.Device.{Device, lines, extents}
 use Rattle.rules.specs.Read.{withHoles, found}
 use Rattle.laws.specs.Unique.{unique}
-use Rattle.laws.specs.Runs.{runs-rows, runs-lookup, Words}
+use Rattle.laws.specs.Runs.{runs-rows, runs-lookup, WordLines}
 use Rattle.laws.specs.Cut.{below, from, below-rows, from-rows, below-lookup, from-lookup}
 
-pub window : (n : ℕ) → 0 < n → (a c : ℕ) (t : List ℕ) → a + c ≤ length t → Words t → below (a + c) (from a (runs n 0 t)) ≡ runs n a (take c (drop a t))
+pub window : (n : ℕ) → 0 < n → (a c : ℕ) (t : List ℕ) → a + c ≤ length t → WordLines t → below (a + c) (from a (runs n 0 t)) ≡ runs n a (take c (drop a t))
 window n z a c t f w =
     unique n (a + c) (below (a + c) (from a (runs n 0 t))) (runs n a part) a none
     (below-rows n (length t) (a + c) (from a (runs n 0 t)) a none (omega arith)
@@ -32,14 +32,14 @@ window n z a c t f w =
     at : (i : ℕ) → i < c → getD part i none ≡ getD t (a + i) none
     at i h = getD-take c (drop a t) i none h ∙ getD-drop a t i none
 
-    words : Words part
+    words : WordLines part
     words i =
         by-cases (decLt i c)
         (λ g. omega (arith, at i g, w (a + i)))
         (λ g. omega (arith, List·getD-eq-default part none {n = i} (omega (arith, size))))
 
 -- what a read answers: the map's extents, clipped to the range, and the holes between them
-pub found-window : (l n : ℕ) (d : Device) → 0 < d .pages → l + n ≤ lines d → Words (d .table)
+pub found-window : (l n : ℕ) (d : Device) → 0 < d .pages → l + n ≤ lines d → WordLines (d .table)
     → found l n d ≡ withHoles l (l + n) (below (l + n) (from l (extents d)))
 unfolding found extents
 found-window l n d z h w = ap (withHoles l (l + n)) (sym (window (d .pages) z l n (d .table) h w))

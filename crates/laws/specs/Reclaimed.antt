@@ -17,7 +17,7 @@ use Rattle.rules.specs.Reclaim.{victim, sources, goes, moved, reclaimedAt, recl
 use Rattle.laws.specs.Sums.{count-rise}
 use Rattle.laws.specs.Picks.{length-picks, picks-at, Picked, picked}
 use Rattle.laws.specs.Cells.{block-le, map-at, swept, length-swept, swept-in, swept-rest, swept-gone, swept-other}
-use Rattle.laws.specs.Device.{Home, Sound, Blank, page-lt, offset-lt, none-block, home-block}
+use Rattle.laws.specs.Device.{Home, SoundDevice, Blank, page-lt, offset-lt, none-block, home-block}
 use Rattle.laws.specs.Live.{named-by, named-below, count-named}
 use Rattle.laws.specs.Balance.{valid-named, valid-le}
 
@@ -47,7 +47,7 @@ goes-other v r d p e =
     (λ g. rw g)
     (λ m. rw (ne-eqb p none m, ne-eqb (p / d .pages) v e))
 
-module _ (d : Device) (s : Sound d) (v : ℕ) (a : v < blocks d) (e : v ≡ d .reserve → ⊥) where
+module _ (d : Device) (s : SoundDevice d) (v : ℕ) (a : v < blocks d) (e : v ≡ d .reserve → ⊥) where
   -- ---- what it is made of
 
   pub re-pages : reclaimedAt v d .pages ≡ d .pages
@@ -275,7 +275,7 @@ module _ (d : Device) (s : Sound d) (v : ℕ) (a : v < blocks d) (e : v ≡ d .r
       (λ f g. let i : o < fill d c = rw (re-fill c f g) at k in
       rw (re-label-other c o f g (omega (arith, s .full c h))) (s .labels c o h i))
 
-  pub re-sound : Sound (reclaimedAt v d)
+  pub re-sound : SoundDevice (reclaimedAt v d)
   re-sound = record {
     some = rw re-pages (s .some);
     words = rw (re-blocks, re-pages) (s .words);

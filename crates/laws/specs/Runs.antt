@@ -118,8 +118,8 @@ join-length n a (b ∷ bs) = cases (joinable n a b) (λ e. rw e (omega arith)) (
 -- ---- the extents of a table
 
 -- a table's lines are words
-abbrev pub Words : List ℕ → Type 0
-Words ps = (i : ℕ) → getD ps i none ≤ none
+abbrev pub WordLines : List ℕ → Type 0
+WordLines ps = (i : ℕ) → getD ps i none ≤ none
 
 pub runs-hole : (n l p : ℕ) (ps : List ℕ) → p ≡ none → runs n l (p ∷ ps) ≡ runs n (suc l) ps
 unfolding runs
@@ -134,7 +134,7 @@ pub runs-page : (n l p : ℕ) (ps : List ℕ) → (p ≡ none → ⊥) → runs 
 unfolding runs
 runs-page n l p ps e = rw (ne-eqb p none e)
 
-pub runs-rows : (n : ℕ) → 0 < n → (ps : List ℕ) (l hi : ℕ) → Words ps → l + length ps ≡ hi → Rows n l none hi (runs n l ps)
+pub runs-rows : (n : ℕ) → 0 < n → (ps : List ℕ) (l hi : ℕ) → WordLines ps → l + length ps ≡ hi → Rows n l none hi (runs n l ps)
 unfolding runs
 runs-rows n z [] l hi w e = omega arith
 runs-rows n z (p ∷ ps) l hi w e =
@@ -147,7 +147,7 @@ runs-rows n z (p ∷ ps) l hi w e =
     (record { above = omega arith; some = omega arith; inside = omega arith; small = omega arith; apart = λ a b. absurd (d b) })
     (rows-at n hi (runs n (suc l) ps) (omega arith) refl rest)))
 
-pub runs-lookup : (n : ℕ) → 0 < n → (ps : List ℕ) (l i j : ℕ) → Words ps → i ≡ l + j → lookup (runs n l ps) i ≡ getD ps j none
+pub runs-lookup : (n : ℕ) → 0 < n → (ps : List ℕ) (l i j : ℕ) → WordLines ps → i ≡ l + j → lookup (runs n l ps) i ≡ getD ps j none
 unfolding lookup runs
 runs-lookup n z [] l i j w e = refl
 runs-lookup n z (p ∷ ps) l i zero w e =
@@ -170,7 +170,7 @@ runs-length n l (p ∷ ps) =
     (λ e. rw (runs-page n l p ps e) (omega (arith, join-length n (extent l p 1) (runs n (suc l) ps), runs-length n (suc l) ps)))
 
 -- the bridge: a sound list that says what the table says is the table's
-pub encode : (n : ℕ) → 0 < n → (ps : List ℕ) (es : List Extent) → Words ps → Rows n 0 none (length ps) es
+pub encode : (n : ℕ) → 0 < n → (ps : List ℕ) (es : List Extent) → WordLines ps → Rows n 0 none (length ps) es
     → ((l : ℕ) → l < length ps → lookup es l ≡ getD ps l none) → es ≡ runs n 0 ps
 encode n z ps es w h same =
     unique n (length ps) es (runs n 0 ps) 0 none h (runs-rows n z ps 0 (length ps) w (omega arith))
@@ -178,7 +178,7 @@ encode n z ps es w h same =
 
 -- ---- words stored into a table
 
-pub sets-words : (vs t : List ℕ) (a : ℕ) → Words vs → Words t → a + length vs ≤ length t → Words (sets t a vs)
+pub sets-words : (vs t : List ℕ) (a : ℕ) → WordLines vs → WordLines t → a + length vs ≤ length t → WordLines (sets t a vs)
 sets-words vs t a v w f j =
     by-cases (decLt j a)
     (λ g. omega (arith, sets-low none vs t a j g, w j))
@@ -187,7 +187,7 @@ sets-words vs t a v w f j =
     (λ h. omega (arith, sets-high none vs t a j (omega arith), w j)))
 
 -- a sound list that says what was stored, and elsewhere what the table said, is that of the table with the words stored from line a on
-pub encode-sets : (n : ℕ) → 0 < n → (a : ℕ) (vs t : List ℕ) (es : List Extent) → a + length vs ≤ length t → Words vs → Words t
+pub encode-sets : (n : ℕ) → 0 < n → (a : ℕ) (vs t : List ℕ) (es : List Extent) → a + length vs ≤ length t → WordLines vs → WordLines t
     → Rows n 0 none (length t) es
     → ((l : ℕ) → l < a → lookup es l ≡ lookup (runs n 0 t) l)
     → ((l : ℕ) → a ≤ l → l < a + length vs → lookup es l ≡ getD vs (l - a) none)
@@ -203,14 +203,14 @@ encode-sets n z a vs t es f v w h left mid right =
 
 -- ---- the table of a list of extents
 
-pub table-words : (n hi : ℕ) (es : List Extent) → Rows n 0 none hi es → (m : ℕ) → Words (tabulate m (lookup es))
+pub table-words : (n hi : ℕ) (es : List Extent) → Rows n 0 none hi es → (m : ℕ) → WordLines (tabulate m (lookup es))
 table-words n hi es h m i =
     by-cases (decLt i m)
     (λ a. omega (arith, getD-tabulate m (lookup es) i none a, lookup-word n hi es 0 none i h))
     (λ a. omega (arith, List·getD-eq-default (tabulate m (lookup es)) none {n = i} (omega (arith, length-tabulate m (lookup es)))))
 
 -- the extents of the table of a sound list are that list
-pub again : (n : ℕ) → 0 < n → (m : ℕ) (es : List Extent) → Rows n 0 none m es → runs n 0 (tabulate m (lookup es)) ≡ es
-again n z m es h =
+pub runs-again : (n : ℕ) → 0 < n → (m : ℕ) (es : List Extent) → Rows n 0 none m es → runs n 0 (tabulate m (lookup es)) ≡ es
+runs-again n z m es h =
     sym (encode n z (tabulate m (lookup es)) es (table-words n m es h m) (rw length-tabulate h)
     (λ l s. sym (getD-tabulate m (lookup es) l none (omega (arith, length-tabulate m (lookup es))))))

@@ -12,7 +12,7 @@ use Rattle.rules.specs.Lent.{Lent}
 use Rattle.rules.specs.Shape.{sizes, lengths, shape, shaped}
 use Rattle.rules.specs.declared.Head.{Head}
 use Rattle.laws.specs.Bools.{and-split}
-use Rattle.laws.specs.Sane.{Sizes, Shaped}
+use Rattle.laws.specs.Sound.{Sizes, Shaped}
 
 pub sizes-true : (b n l m : ℕ) → sizes b n l m ≡ true → Sizes b n l m
 unfolding sizes

@@ -6,9 +6,13 @@ use native.Mathlib.Omega.{arith}
 use native.Mathlib.Nat.{not-suc-le-zero, le-of-suc-le-suc}
 use lib.ListN.{length, getD, set, take, drop, length-set}
 use lib.Seq.{sets, getD-set-same, getD-set-other}
-use Rattle.rules.specs.Extents.{slot, putSlot, slotsFrom, flat}
+use Rattle.rules.specs.Extents.{extent, slot, putSlot, slotsFrom, flat}
 use Rattle.rules.specs.declared.Extent.{Extent}
 use Rattle.laws.specs.Unique.{extent-path}
+
+-- what an extent that is not there would be
+abbrev pub blank : Extent
+blank = extent 0 0 0
 
 -- ---- slots read from words
 

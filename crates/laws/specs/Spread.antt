@@ -30,19 +30,19 @@ unfoldable pub taken : ℕ → ℕ → ℕ → ℕ → ℕ → ℕ
 taken n reserve b f want = min (roomAt n reserve b f) want
 
 -- the block that `want` pages start with: the first that takes some of them, or the number of blocks where none does
-unfoldable pub startOf : ℕ → ℕ → List ℕ → ℕ → ℕ
-startOf n reserve fs want = first (length fs) (λ b. ltb 0 (taken n reserve b (getD fs b 0) want))
+unfoldable pub startBlock : ℕ → ℕ → List ℕ → ℕ → ℕ
+startBlock n reserve fs want = first (length fs) (λ b. ltb 0 (taken n reserve b (getD fs b 0) want))
 
 -- an extent in front of others; of no pages it is none
-unfoldable pub listed : Extent → List Extent → List Extent
-listed e es = cond (eqb (e .count) 0) es (e ∷ es)
+unfoldable pub withPiece : Extent → List Extent → List Extent
+withPiece e es = cond (eqb (e .count) 0) es (e ∷ es)
 
 -- the pieces of `want` pages for lines l, l + 1, .., over blocks b, b + 1, .., whose fills are given
 unfoldable pub spread : ℕ → ℕ → List ℕ → ℕ → ℕ → ℕ → List Extent
 spread n reserve [] b l want = []
 spread n reserve (f ∷ fs) b l want =
     let m = taken n reserve b f want in
-    listed (extent l (b * n + f) m) (spread n reserve fs (b + 1) (l + m) (want - m))
+    withPiece (extent l (b * n + f) m) (spread n reserve fs (b + 1) (l + m) (want - m))
 
 -- and the fills with what each block takes
 unfoldable pub filled : ℕ → ℕ → List ℕ → ℕ → ℕ → List ℕ
@@ -56,12 +56,12 @@ unfoldable pub labelled : List Extent → List ℕ → List ℕ
 labelled [] s = s
 labelled (e ∷ es) s = labelled es (sets s (e .physical) (tabulate (e .count) (λ i. e .logical + i)))
 
-pub listed-none : (e : Extent) (es : List Extent) → e .count ≡ 0 → listed e es ≡ es
-unfolding listed
+pub listed-none : (e : Extent) (es : List Extent) → e .count ≡ 0 → withPiece e es ≡ es
+unfolding withPiece
 listed-none e es h = rw (eq-eqb (e .count) 0 h)
 
-pub listed-some : (e : Extent) (es : List Extent) → 0 < e .count → listed e es ≡ e ∷ es
-unfolding listed
+pub listed-some : (e : Extent) (es : List Extent) → 0 < e .count → withPiece e es ≡ e ∷ es
+unfolding withPiece
 listed-some e es h = rw (ne-eqb (e .count) 0 (omega arith))
 
 pub taken-le : (n reserve b f want : ℕ) → taken n reserve b f want ≤ want

@@ -1,4 +1,4 @@
--- From a sound state to its plain device and back: a state is sound exactly when it is the words of its own device and that device is good.
+-- From a sound state to its plain device and back: a state is sound exactly when it is the words of its own device and that device is storable.
 use Prim.Native.Nat.{ℕ, _+_, _-_, _*_, _/_, _%_, _≤_, _<_}
 use mathlib.Core.Bool.{true}
 use mathlib.Core.Path.{_≡_, refl, sym, ap, ap₂, _∙_, subst, subst₂}
@@ -21,15 +21,15 @@ use Rattle.rules.specs.declared.Extent.{Extent}
 use Rattle.laws.specs.Sums.{count-same}
 use Rattle.laws.specs.Cells.{length-tabulate, getD-tabulate, replicate-at}
 use Rattle.laws.specs.Rows.{Rows}
-use Rattle.laws.specs.Runs.{Words, runs-rows, runs-lookup, again}
+use Rattle.laws.specs.Runs.{WordLines, runs-rows, runs-lookup, runs-again}
 use Rattle.laws.specs.Slots.{slots-length, flat-length, slots-flat, flat-slots}
 use Rattle.laws.specs.Records.{records-length, records-fill, records-valid, words-records}
-use Rattle.laws.specs.Device.{Home, Sound, page-lt, none-block, offset-lt}
+use Rattle.laws.specs.Device.{Home, SoundDevice, page-lt, none-block, offset-lt}
 use Rattle.laws.specs.Balance.{valid-lines}
-use Rattle.laws.specs.Sane.{Shaped, Sane, Good, pagesIn}
+use Rattle.laws.specs.Sound.{Shaped, SoundState, Storable, pagesIn}
 use Rattle.laws.specs.Shapes.{some-pages, pages-fit, shaped-true, true-shaped}
 use Rattle.laws.specs.Ranked.{rows-one, slot-lookup, lookup-held, rows-ranked}
-use Rattle.laws.specs.Sanes.{Page, sane-page, sound-sane, ranked-sound}
+use Rattle.laws.specs.Sounds.{Page, state-page, sound-state, ranked-sound}
 use Rattle.laws.specs.Tallies.{in-slots}
 
 -- ---- the device of a state
@@ -65,7 +65,7 @@ page-home s z p l h =
       labelled = h .labelled;
     }
 
-home-page : (s : Lent) → Sound (deviceOf s) → (p l : ℕ) → Home (deviceOf s) l p → Page s p l
+home-page : (s : Lent) → SoundDevice (deviceOf s) → (p l : ℕ) → Home (deviceOf s) l p → Page s p l
 unfolding deviceOf
 home-page s d p l h =
     let n = s .head .pages in
@@ -78,7 +78,7 @@ home-page s d p l h =
       labelled = h .labelled;
     }
 
-pub device-page : (s : Lent) → Rows (s .head .pages) 0 none (s .head .logical) (inUse s) → Sound (deviceOf s) → (i k : ℕ) → i < s .head .used → k < slotOf s i .count
+pub device-page : (s : Lent) → Rows (s .head .pages) 0 none (s .head .logical) (inUse s) → SoundDevice (deviceOf s) → (i k : ℕ) → i < s .head .used → k < slotOf s i .count
     → Page s (slotOf s i .physical + k) (slotOf s i .logical + k)
 device-page s r d i k h t =
     let l = slotOf s i .logical + k in
@@ -89,7 +89,7 @@ device-page s r d i k h t =
     home-page s d p l (subst (λ (x : ℕ). Home (deviceOf s) l x) e (d .home l (λ g. omega (arith, a .small i h))))
 
 -- rule 5 of both
-pub device-valid : (s : Lent) → Rows (s .head .pages) 0 none (s .head .logical) (inUse s) → Sound (deviceOf s) → (b : ℕ) → b < s .head .blocks
+pub device-valid : (s : Lent) → Rows (s .head .pages) 0 none (s .head .logical) (inUse s) → SoundDevice (deviceOf s) → (b : ℕ) → b < s .head .blocks
     → valid (deviceOf s) b ≡ sum (s .head .used) (pagesIn (s .extentWords) (s .head .pages) b)
 unfolding deviceOf
 device-valid s r d b h =
@@ -101,23 +101,23 @@ device-valid s r d b h =
     (λ l t. ap (λ (x : ℕ). eqb (x / n) b) (device-at s l t))
     ∙ in-slots n (s .head .logical) b (none-block (deviceOf s) d b k) (s .extentWords) (s .head .used) r
 
--- ---- a sound state has a good device, and its words are those of that device
+-- ---- a sound state has a storable device, and its words are those of that device
 
 pub device-extents : (s : Lent) → 0 < s .head .pages → Rows (s .head .pages) 0 none (s .head .logical) (inUse s) → extents (deviceOf s) ≡ inUse s
 unfolding extents deviceOf tableOf
-device-extents s z r = again (s .head .pages) z (s .head .logical) (inUse s) r
+device-extents s z r = runs-again (s .head .pages) z (s .head .logical) (inUse s) r
 
-module _ (s : Lent) (z : Shaped s) (f : Sane s) where
+module _ (s : Lent) (z : Shaped s) (f : SoundState s) where
   device-home : (l : ℕ) → (at (deviceOf s) l ≡ none → ⊥) → Home (deviceOf s) l (at (deviceOf s) l)
   device-home l m =
       let t : l < s .head .logical = by-cases (decLt l (s .head .logical)) (λ a. a)
       (λ a. absurd (m (List·getD-eq-default (deviceOf s .table) none {n = l} (omega (arith, device-lines s))))) in
       let e = device-at s l t in
       let h = lookup-held (s .extentWords) (s .head .used) 0 l (λ g. m (e ∙ g)) in
-      let p = sane-page s z f (h .place) (h .offset) (omega (arith, h .high)) (h .inside) in
+      let p = state-page s z f (h .place) (h .offset) (omega (arith, h .high)) (h .inside) in
       subst₂ (λ (x y : ℕ). Home (deviceOf s) x y) (sym (h .logical)) (sym (e ∙ h .physical)) (page-home s (some-pages (z .sizes)) _ _ p)
 
-  device-sound : Sound (deviceOf s)
+  device-sound : SoundDevice (deviceOf s)
   unfolding deviceOf
   device-sound =
       let n = s .head .pages in
@@ -141,9 +141,9 @@ module _ (s : Lent) (z : Shaped s) (f : Sane s) where
   used-extents : length (extents (deviceOf s)) ≡ s .head .used
   used-extents = ap length extents-in-use ∙ slots-length (s .extentWords) 0 (s .head .used)
 
-  pub sane-good : Good (deviceOf s)
+  pub state-storable : Storable (deviceOf s)
   unfolding deviceOf
-  sane-good = record {
+  state-storable = record {
     sizes = rw (device-blocks s, device-lines s) (z .sizes);
     sound = device-sound;
     few = omega (arith, used-extents, f .few);
@@ -187,9 +187,9 @@ module _ (s : Lent) (z : Shaped s) (f : Sane s) where
         spare = s .spare;
       }
 
--- ---- a good device is that of its words, and these are sound
+-- ---- a storable device is that of its words, and these are sound
 
-pub table-lines : (d : Device) → Sound d → Words (d .table)
+pub table-lines : (d : Device) → SoundDevice d → WordLines (d .table)
 table-lines d s l =
     by-cases (ℕ-discrete (at d l) none)
     (λ e. omega arith)
@@ -207,15 +207,15 @@ pub words-valid : (d : Device) (b : ℕ) → b < blocks d → validOf (wordsOf d
 unfolding wordsOf
 words-valid d b h = records-valid (d .fills) 0 (valid d) b b h (omega arith)
 
-pub extents-lookup : (d : Device) → Sound d → (l : ℕ) → lookup (extents d) l ≡ at d l
+pub extents-lookup : (d : Device) → SoundDevice d → (l : ℕ) → lookup (extents d) l ≡ at d l
 unfolding extents
 extents-lookup d s l = runs-lookup (d .pages) (s .some) (d .table) 0 l l (table-lines d s) (omega arith)
 
-pub extents-rows : (d : Device) → Sound d → Rows (d .pages) 0 none (lines d) (extents d)
+pub extents-rows : (d : Device) → SoundDevice d → Rows (d .pages) 0 none (lines d) (extents d)
 unfolding extents
 extents-rows d s = runs-rows (d .pages) (s .some) (d .table) 0 (lines d) (table-lines d s) (omega arith)
 
-pub words-device : (d : Device) → Good d → deviceOf (wordsOf d) ≡ d
+pub words-device : (d : Device) → Storable d → deviceOf (wordsOf d) ≡ d
 unfolding wordsOf headOf deviceOf tableOf
 words-device d g =
     λ i. record {
@@ -239,7 +239,7 @@ words-device d g =
         ext-getD 0 (tabulate (blocks d) (fillOf (wordsOf d))) (d .fills) (length-tabulate (blocks d) (fillOf (wordsOf d)))
         (λ b t. getD-tabulate (blocks d) (fillOf (wordsOf d)) b 0 (omega (arith, length-tabulate (blocks d) (fillOf (wordsOf d)))) ∙ words-fill d b)
 
-module _ (d : Device) (g : Good d) where
+module _ (d : Device) (g : Storable d) where
   words-shaped : Shaped (wordsOf d)
   unfolding wordsOf headOf
   words-shaped =
@@ -252,8 +252,8 @@ module _ (d : Device) (g : Good d) where
         spare = g .sound .whole;
       }
 
-  pub good-shaped : shaped (wordsOf d) ≡ true
-  good-shaped = true-shaped (wordsOf d) words-shaped
+  pub storable-shaped : shaped (wordsOf d) ≡ true
+  storable-shaped = true-shaped (wordsOf d) words-shaped
 
   words-rows : Rows (d .pages) 0 none (lines d) (inUse (wordsOf d))
   words-rows = rw (words-in-use d) (extents-rows d (g .sound))
@@ -266,12 +266,12 @@ module _ (d : Device) (g : Good d) where
       let at : k ≡ length es + (k - length es) = omega (arith, flat-length (extents d)) in
       ap (λ (x : ℕ). getD (es ++ replicate m 0) x 0) at ∙ getD-append-add es (replicate m 0) (k - length es) 0 ∙ replicate-at 0 m (k - length es)
 
-  pub good-sound : sound (wordsOf d) ≡ true
+  pub storable-sound : sound (wordsOf d) ≡ true
   unfolding wordsOf headOf
-  good-sound =
+  storable-sound =
       let s = wordsOf d in
       let e = words-device d g in
-      let sd : Sound (deviceOf s) = subst Sound (sym e) (g .sound) in
+      let sd : SoundDevice (deviceOf s) = subst SoundDevice (sym e) (g .sound) in
       ranked-sound s (g .few) (rows-ranked (d .pages) (lines d) (s .extentWords) (length (extents d)) words-rows) (λ k a b. words-zeros k a)
       (record {
         full = λ b h. omega (arith, words-fill d b, g .sound .full b h);
@@ -285,13 +285,13 @@ module _ (d : Device) (g : Good d) where
 -- ---- what this says of sound states
 
 -- a state is sound exactly when its words are the encoding of its table
-pub sound-iff : (s : Lent) → shaped s ≡ true → (sound s ≡ true) ↔ (Good (deviceOf s) × (wordsOf (deviceOf s) ≡ s))
+pub sound-iff : (s : Lent) → shaped s ≡ true → (sound s ≡ true) ↔ (Storable (deviceOf s) × (wordsOf (deviceOf s) ≡ s))
 sound-iff s h =
     let z = shaped-true s h in
-    (λ e. let f = sound-sane s z e in (sane-good s z f, device-words s z f), λ p. subst (λ (x : Lent). sound x ≡ true) (p .1) (good-sound (deviceOf s) (p .0)))
+    (λ e. let f = sound-state s z e in (state-storable s z f, device-words s z f), λ p. subst (λ (x : Lent). sound x ≡ true) (p .1) (storable-sound (deviceOf s) (p .0)))
 
 -- two states that say the same of every page, and agree in all but the extents and the valid counts
-pub record Alike (s t : Lent) : Type 0 where
+pub record SamePages (s t : Lent) : Type 0 where
   pub blocks : s .head .blocks ≡ t .head .blocks
   pub pages : s .head .pages ≡ t .head .pages
   pub logical : s .head .logical ≡ t .head .logical
@@ -309,7 +309,7 @@ tabulate-same n m f g e h =
     ext-getD 0 (tabulate n f) (tabulate m g) (p ∙ e ∙ sym q)
     (λ i t. getD-tabulate n f i 0 (omega arith) ∙ h i (omega arith) ∙ sym (getD-tabulate m g i 0 (omega arith)))
 
-device-same : (s t : Lent) → Alike s t → deviceOf s ≡ deviceOf t
+device-same : (s t : Lent) → SamePages s t → deviceOf s ≡ deviceOf t
 unfolding deviceOf tableOf
 device-same s t a =
     λ i. record {
@@ -323,11 +323,11 @@ device-same s t a =
     }
 
 -- are one state
-pub same-map : (s t : Lent) → shaped s ≡ true → sound s ≡ true → shaped t ≡ true → sound t ≡ true → Alike s t → s ≡ t
+pub same-map : (s t : Lent) → shaped s ≡ true → sound s ≡ true → shaped t ≡ true → sound t ≡ true → SamePages s t → s ≡ t
 same-map s t hs es ht et a = sym (sound-iff s hs .0 es .1) ∙ ap wordsOf (device-same s t a) ∙ sound-iff t ht .0 et .1
 
 -- no two extents of a sound state share a physical page
-pub apart : (s : Lent) → Sane s → (i j k m : ℕ) → i < s .head .used → j < s .head .used → (i ≡ j → ⊥) → k < slotOf s i .count → m < slotOf s j .count
+pub apart : (s : Lent) → SoundState s → (i j k m : ℕ) → i < s .head .used → j < s .head .used → (i ≡ j → ⊥) → k < slotOf s i .count → m < slotOf s j .count
     → slotOf s i .physical + k ≡ slotOf s j .physical + m → ⊥
 apart s f i j k m a b ne c d e =
     ne (rows-one (s .head .pages) (s .head .logical) (s .extentWords) (s .head .used) (f .rows) i j k m a b c d

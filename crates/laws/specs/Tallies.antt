@@ -15,7 +15,7 @@ use Rattle.rules.specs.declared.Extent.{Extent}
 use Rattle.laws.specs.Sums.{sum-same, sum-add, sum-zero, count-sum, count-same, count-none}
 use Rattle.laws.specs.Rows.{Rows, lookup-before, lookup-in, lookup-after, lookup-low, div-shift}
 use Rattle.laws.specs.Slots.{slots-more}
-use Rattle.laws.specs.Sane.{pagesIn}
+use Rattle.laws.specs.Sound.{pagesIn}
 use Rattle.laws.specs.Ranked.{rows-slot}
 
 -- ---- an extent and a range
@@ -135,10 +135,10 @@ module _ (n hi c : ℕ) (o : none / n ≡ c → ⊥) where
           ∙ ap (λ (x : ℕ). one (eqb x c)) (div-shift n (e .physical) (l - e .logical) (omega (arith, h .0 .inside)))
 
   -- of m lines from a on, those in block c are the pages in block c that the extents have there
-  pub in-range : (es : List Extent) (lo q : ℕ) → Rows n lo q hi es → (a m : ℕ) → count m (λ i. eqb (lookup es (a + i) / n) c) ≡ total (inRange n c a (a + m)) es
+  pub lines-in-range : (es : List Extent) (lo q : ℕ) → Rows n lo q hi es → (a m : ℕ) → count m (λ i. eqb (lookup es (a + i) / n) c) ≡ total (inRange n c a (a + m)) es
   unfolding lookup total
-  in-range [] lo q h a m = count-none m (λ i. eqb (none / n) c) (λ i s. ne-eqb (none / n) c o)
-  in-range (e ∷ es) lo q h a m =
+  lines-in-range [] lo q h a m = count-none m (λ i. eqb (none / n) c) (λ i s. ne-eqb (none / n) c o)
+  lines-in-range (e ∷ es) lo q h a m =
       let own : ℕ → ℕ = λ i. inRange n c (a + i) (suc (a + i)) e in
       let rest : ℕ → ℕ = λ i. one (eqb (lookup es (a + i) / n) c) in
       omega (
@@ -148,12 +148,12 @@ module _ (n hi c : ℕ) (o : none / n ≡ c → ⊥) where
         sum-add m own rest,
         range-sum n c e a m,
         count-sum m (λ i. eqb (lookup es (a + i) / n) c),
-        in-range es _ _ (h .1) a m,
+        lines-in-range es _ _ (h .1) a m,
       )
 
   pub in-range-slots : (ws : List ℕ) (u lo q : ℕ) → Rows n lo q hi (slotsFrom ws 0 u) → (a m : ℕ)
       → count m (λ i. eqb (lookup (slotsFrom ws 0 u) (a + i) / n) c) ≡ sum u (λ i. inRange n c a (a + m) (slot ws i))
-  in-range-slots ws u lo q h a m = in-range (slotsFrom ws 0 u) lo q h a m ∙ total-slots (inRange n c a (a + m)) ws u
+  in-range-slots ws u lo q h a m = lines-in-range (slotsFrom ws 0 u) lo q h a m ∙ total-slots (inRange n c a (a + m)) ws u
 
   -- all lines: rule 5
   pub in-slots : (ws : List ℕ) (u : ℕ) → Rows n 0 none hi (slotsFrom ws 0 u) → count hi (λ l. eqb (lookup (slotsFrom ws 0 u) l / n) c) ≡ sum u (pagesIn ws n c)

@@ -7,11 +7,11 @@ use lib.ListN.{length, replicate, length-replicate}
 use lib.Seq.{sets}
 use Rattle.rules.specs.Extents.{none, runs}
 use Rattle.laws.specs.Cells.{replicate-at}
-use Rattle.laws.specs.Runs.{runs-rows, Words, encode-sets}
+use Rattle.laws.specs.Runs.{runs-rows, WordLines, encode-sets}
 use Rattle.laws.specs.Cut.{cut, cut-rows, cut-left, cut-in, cut-right}
 
-pub trim-cut : (n : ℕ) → 0 < n → (l c : ℕ) (t : List ℕ) → 0 < c → l + c ≤ length t → Words t → cut l (l + c) (runs n 0 t) ≡ runs n 0 (sets t l (replicate c none))
-trim-cut n z l c t p f w =
+pub cut-trims : (n : ℕ) → 0 < n → (l c : ℕ) (t : List ℕ) → 0 < c → l + c ≤ length t → WordLines t → cut l (l + c) (runs n 0 t) ≡ runs n 0 (sets t l (replicate c none))
+cut-trims n z l c t p f w =
     let s : l < l + c = omega arith in
     let size = length-replicate c none in
     let sound = runs-rows n z t 0 (length t) w (omega arith) in

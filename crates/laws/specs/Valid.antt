@@ -15,7 +15,7 @@ use Rattle.rules.specs.Request.{withTable, trimmed}
 use Rattle.rules.specs.Reclaim.{reclaimedAt}
 use Rattle.laws.specs.Sums.{count-same}
 use Rattle.laws.specs.Cells.{count-sets, count-wiped}
-use Rattle.laws.specs.Device.{Sound, none-block}
+use Rattle.laws.specs.Device.{SoundDevice, none-block}
 use Rattle.laws.specs.Balance.{valid-lines, valid-stale}
 use Rattle.laws.specs.Placed.{Opens, puts-table, puts-pages, puts-sound, length-places, places-block}
 use Rattle.laws.specs.Lines.{trimmed-sound}
@@ -38,7 +38,7 @@ puts-lines-in l bs d v h c =
       count-same (length bs) (λ i. t (getD ps i none)) (λ i. eqb (getD bs i 0) c) (λ i a. ap (λ (x : ℕ). eqb x c) (places-block l bs d v i a)),
     ))
 
-pub puts-valid : (l : ℕ) (bs : List ℕ) (d : Device) → Sound d → Opens l bs d → l + length bs ≤ lines d → (c : ℕ) → c < blocks d
+pub puts-valid : (l : ℕ) (bs : List ℕ) (d : Device) → SoundDevice d → Opens l bs d → l + length bs ≤ lines d → (c : ℕ) → c < blocks d
     → valid (putsAt l bs d) c + count (length bs) (λ i. eqb (at d (l + i) / d .pages) c) ≡ valid d c + count (length bs) (λ i. eqb (getD bs i 0) c)
 puts-valid l bs d s v h c a =
     let p = puts-sound l bs d s v h in
@@ -51,7 +51,7 @@ puts-valid l bs d s v h c a =
     )
 
 -- a trim: one less for each line of the range that was in the block, and only once
-pub trim-valid : (k l n : ℕ) (d : Device) → Sound d → l + n ≤ lines d → (c : ℕ) → c < blocks d
+pub trim-valid : (k l n : ℕ) (d : Device) → SoundDevice d → l + n ≤ lines d → (c : ℕ) → c < blocks d
     → valid (trimmed k l n d) c + count n (λ i. eqb (at d (l + i) / d .pages) c) ≡ valid d c
 unfolding trimmed withTable
 trim-valid k l n d s h c t =
@@ -63,7 +63,7 @@ trim-valid k l n d s h c t =
     )
 
 -- a reclaim: the victim's go to the reserve
-module _ (d : Device) (s : Sound d) (v : ℕ) (a : v < blocks d) (e : v ≡ d .reserve → ⊥) where
+module _ (d : Device) (s : SoundDevice d) (v : ℕ) (a : v < blocks d) (e : v ≡ d .reserve → ⊥) where
   after : (c : ℕ) → c < blocks d → c < blocks (reclaimedAt v d)
   after c h = omega (arith, re-blocks d s v a e)
 

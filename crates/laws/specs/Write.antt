@@ -8,7 +8,7 @@ use lib.Seq.{sets}
 use Rattle.rules.specs.Extents.{none, lookup, join, runs}
 use Rattle.rules.specs.declared.Extent.{Extent}
 use Rattle.laws.specs.Rows.{Rows, rows-first, lookup-cons}
-use Rattle.laws.specs.Runs.{join-rows, join-lookup, runs-rows, runs-lookup, Words, encode-sets}
+use Rattle.laws.specs.Runs.{join-rows, join-lookup, runs-rows, runs-lookup, WordLines, encode-sets}
 use Rattle.laws.specs.Cut.{below, from, below-rows, from-rows, below-lookup, from-lookup, append-left, append-right}
 
 -- extents in front of others, each joined with what follows it where rule 2 asks
@@ -68,7 +68,7 @@ module _ (n hi a b : ℕ) (new es : List Extent) (s : a ≤ b) (f : b ≤ hi) (w
   place-right l g = rest l (omega arith) ∙ append-right n b new (from b es) a none l w g ∙ from-lookup b es l g
 
 -- the extents of a table into which the words vs were stored from line a on
-pub write-place : (n : ℕ) → 0 < n → (a : ℕ) (vs t : List ℕ) → a + length vs ≤ length t → Words vs → Words t
+pub write-place : (n : ℕ) → 0 < n → (a : ℕ) (vs t : List ℕ) → a + length vs ≤ length t → WordLines vs → WordLines t
     → place n a (a + length vs) (runs n a vs) (runs n 0 t) ≡ runs n 0 (sets t a vs)
 write-place n z a vs t f v w =
     encode-sets n z a vs t (place n a b new es) f v w (place-rows n (length t) a b new es (omega arith) f made sound)

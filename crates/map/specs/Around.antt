@@ -66,8 +66,8 @@ module _ (n l p before : ℕ) (ws : List ℕ) where
   unfolding joinsBefore
   none-before h = let e : before ≡ 0 = omega arith in rw e
 
-  pub not-next : 1 ≤ before → (l ≡ end (slot ws (before - 1)) → ⊥) → false ≡ joinsBefore n (extent l p 1) before ws
-  not-next h s = sym (last h ∙ never (joinable n (slot ws (before - 1)) (extent l p 1)) (λ e. s (joinable-true n _ _ e .logical)))
+  pub not-next-logical : 1 ≤ before → (l ≡ end (slot ws (before - 1)) → ⊥) → false ≡ joinsBefore n (extent l p 1) before ws
+  not-next-logical h s = sym (last h ∙ never (joinable n (slot ws (before - 1)) (extent l p 1)) (λ e. s (joinable-true n _ _ e .logical)))
 
   pub not-behind : 1 ≤ before → (p ≡ slot ws (before - 1) .physical + slot ws (before - 1) .count → ⊥) → false ≡ joinsBefore n (extent l p 1) before ws
   not-behind h s = sym (last h ∙ never (joinable n (slot ws (before - 1)) (extent l p 1)) (λ e. s (joinable-true n _ _ e .physical)))

@@ -17,9 +17,9 @@ use Rattle.laws.specs.Rows.{Rows}
 use Rattle.laws.specs.Sums.{one-le}
 use Rattle.laws.specs.Unique.{extent-path}
 use Rattle.laws.specs.Cut.{below, from, cut, below-none, below-part, below-all, from-none, from-part, from-all}
-use Rattle.laws.specs.Slots.{slots-at, slots-length}
+use Rattle.laws.specs.Slots.{blank, slots-at, slots-length}
 use Rattle.laws.specs.Counts.{startsBefore, endsAfter, tally, tally-le, starts-none, ends-all}
-use Rattle.map.specs.Sound.{Sound}
+use Rattle.map.specs.Sound.{SoundMap}
 use Rattle.map.specs.Padded.{padded, Holds, became-length, became-slots, became-holds, holds-put}
 
 -- an extent's part below l
@@ -29,9 +29,6 @@ upTo l x = extent (x .logical) (x .physical) (min (x .count) (l - x .logical))
 -- its part from e on
 abbrev pub onFrom : ℕ → Extent → Extent
 onFrom e x = extent (max e (x .logical)) (x .physical + (max e (x .logical) - x .logical)) (end x - max e (x .logical))
-
-abbrev pub blank : Extent
-blank = extent 0 0 0
 
 -- the last of a extents clipped on the right
 unfoldable pub clipRight : ℕ → ℕ → List Extent → List Extent
@@ -177,7 +174,7 @@ module _ (ws : List ℕ) (u : ℕ) where
   pub at-slot : (i : ℕ) → i < u → getD (slotsFrom ws 0 u) i blank ≡ slot ws i
   at-slot i h = slots-at ws 0 u i i blank h (omega arith)
 
-  module _ (s : Sound (slotsFrom ws 0 u)) where
+  module _ (s : SoundMap (slotsFrom ws 0 u)) where
     pub sound-starts : (l i : ℕ) → i < startsBefore l (slotsFrom ws 0 u) → slot ws i .logical < l
     sound-starts l i h =
         let b = tally-le (λ y. ltb (y .logical) l) (slotsFrom ws 0 u) in
@@ -212,9 +209,9 @@ module _ (ws : List ℕ) (u : ℕ) where
         rw e (g ∙ holds-put ws u (a - 1) _ h (omega arith) ∙ ap (λ (y : Extent). padded (length ws) (set (slotsFrom ws 0 u) (a - 1) y))
         (extent-path _ (upTo l (slot ws (a - 1))) refl refl (omega arith) ∙ ap (upTo l) (sym x)))
 
-    pub left-none : (e z : ℕ) → u ≤ z → ws ≡ padded (length ws) (clipLeft e z (slotsFrom ws 0 u))
+    pub clip-left-none : (e z : ℕ) → u ≤ z → ws ≡ padded (length ws) (clipLeft e z (slotsFrom ws 0 u))
     unfolding clipLeft
-    left-none e z s = h .is ∙ ap (padded (length ws)) (sym (set-out (slotsFrom ws 0 u) z _ (omega (arith, slots-length ws 0 u))))
+    clip-left-none e z s = h .is ∙ ap (padded (length ws)) (sym (set-out (slotsFrom ws 0 u) z _ (omega (arith, slots-length ws 0 u))))
 
     pub left-same : (e z : ℕ) → z < u → e ≤ slot ws z .logical → ws ≡ padded (length ws) (clipLeft e z (slotsFrom ws 0 u))
     unfolding clipLeft

@@ -16,7 +16,7 @@ use Rattle.rules.specs.declared.Extent.{Extent}
 use Rattle.laws.specs.Counts.{tally, startsBefore, endsAfter, tally-start, tally-more}
 use Rattle.laws.specs.Cut.{from, from-none}
 use Rattle.laws.specs.Slots.{slots-first}
-use Rattle.map.specs.Sound.{Sound, sound-piece, sound-order}
+use Rattle.map.specs.Sound.{SoundMap, sound-piece, sound-order}
 
 -- how many of the extents end at or below logical page l
 abbrev pub endsBy : ℕ → List Extent → ℕ
@@ -55,7 +55,7 @@ pub record Halved (ws : List ℕ) (u l i left : ℕ) : Type 0 where
 pub halved-start : (ws : List ℕ) (u l : ℕ) → Halved ws u l 0 u
 halved-start ws u l = record { inside = omega arith; low = λ j h. absurd (omega arith); high = λ j h t. absurd (omega arith) }
 
-module _ (ws : List ℕ) (u : ℕ) (s : Sound (slotsFrom ws 0 u)) where
+module _ (ws : List ℕ) (u : ℕ) (s : SoundMap (slotsFrom ws 0 u)) where
   ends-rise : (i j : ℕ) → i ≤ j → j < u → end (slot ws i) ≤ end (slot ws j)
   ends-rise i j h t =
       by-cases (decLt i j)
@@ -91,7 +91,7 @@ halved-end ws u l i left h e =
 
 -- ---- what the number tells of each slot
 
-module _ (ws : List ℕ) (u l : ℕ) (s : Sound (slotsFrom ws 0 u)) where
+module _ (ws : List ℕ) (u l : ℕ) (s : SoundMap (slotsFrom ws 0 u)) where
   record Found : Type 0 where
     at : ℕ
     is : Halved ws u l at 0
@@ -115,11 +115,11 @@ module _ (ws : List ℕ) (u l : ℕ) (s : Sound (slotsFrom ws 0 u)) where
     found : Halved ws u l k 0
     found = ends-first k e
 
-    pub first-le : k ≤ u
-    first-le = omega (arith, found .inside)
+    pub first-below : k ≤ u
+    first-below = omega (arith, found .inside)
 
     ahead : (j : ℕ) → j < k → slot ws j .logical < l
-    ahead j h = omega (arith, found .low j h, sound-piece ws u s j (omega (arith, first-le)) .some)
+    ahead j h = omega (arith, found .low j h, sound-piece ws u s j (omega (arith, first-below)) .some)
 
     behind : (j : ℕ) → k < j → j < u → l ≤ slot ws j .logical
     behind j h t = omega (arith, found .high k (omega arith) (omega arith), sound-order ws u s k j h t)
@@ -139,7 +139,7 @@ module _ (ws : List ℕ) (u l : ℕ) (s : Sound (slotsFrom ws 0 u)) where
     starts-later g =
         omega (
           arith,
-          first-le,
+          first-below,
           tally-below (λ x. ltb (x .logical) l) ws k u
               (λ j a b. lt-ltb (slot ws j .logical) l (ahead j a))
               (λ j a b. le-ltb (slot ws j .logical) l (by-cases (decLt k j) (λ t. behind j t b) (λ t. let at : j ≡ k = omega arith in rw at (g (omega arith))))),
@@ -155,7 +155,7 @@ from-skip ws u l k b h (suc d) i e =
     ∙ from-skip ws u l k b h d (i + 1) (omega arith)
 
 -- the extents from l on are those from l on of the slots from that one on
-pub from-there : (ws : List ℕ) (u l k : ℕ) → Sound (slotsFrom ws 0 u) → k ≡ endsBy l (slotsFrom ws 0 u) → from l (slotsFrom ws 0 u) ≡ from l (slotsFrom ws k (u - k))
+pub from-there : (ws : List ℕ) (u l k : ℕ) → SoundMap (slotsFrom ws 0 u) → k ≡ endsBy l (slotsFrom ws 0 u) → from l (slotsFrom ws 0 u) ≡ from l (slotsFrom ws k (u - k))
 from-there ws u l k s e =
     let z : u ≡ u - 0 = omega arith in
     let h = ends-first ws u l s k e in

@@ -7,7 +7,7 @@ use Rattle.rules.specs.declared.Extent.{Extent}
 use Rattle.laws.specs.Rows.{Rows}
 use Rattle.laws.specs.Ranked.{Ranked, rows-ranked, rows-order}
 
-pub record Sound (es : List Extent) : Type 0 where
+pub record SoundMap (es : List Extent) : Type 0 where
   pub pages : ℕ
   pub logical : ℕ
   pub rows : Rows pages 0 none logical es
@@ -17,7 +17,7 @@ pub record Piece (x : Extent) : Type 0 where
   pub some : 0 < x .count
   pub small : x .physical + x .count ≤ none
 
-module _ (ws : List ℕ) (u : ℕ) (s : Sound (slotsFrom ws 0 u)) where
+module _ (ws : List ℕ) (u : ℕ) (s : SoundMap (slotsFrom ws 0 u)) where
   ranked : Ranked (s .pages) (s .logical) ws u
   ranked = rows-ranked (s .pages) (s .logical) ws u (s .rows)
 

@@ -6,7 +6,7 @@ ghost use mathlib.Core.List.{_∷_, _++_};
 ghost use lib.ListN.{length, take, drop, set};
 ghost use Rattle.rules.specs.Extents.{extent, end, slot, slotsFrom};
 ghost use Rattle.laws.specs.Counts.{startsBefore};
-ghost use Rattle.map.specs.Sound.{Sound};
+ghost use Rattle.map.specs.Sound.{SoundMap};
 ghost use Rattle.map.specs.Halved.{endsBy};
 ghost use Rattle.map.specs.Around.{Beside, joinsBefore};
 ghost use Rattle.map.specs.Padded.{padded, Holds};
@@ -22,7 +22,7 @@ pub fn end_of(ext: &[u32], i: usize) -> u64
 
 // How many of the extents in use end at or below a logical page: the first slot that ends after it, found by halving the slots that are left.
 pub fn first_after(ext: &[u32], used: usize, page: u64) -> usize
-    requires { ⌜ (3 * used ≤ length (now ext)) × Sound (slotsFrom (now ext) 0 used) ⌝ }
+    requires { ⌜ (3 * used ≤ length (now ext)) × SoundMap (slotsFrom (now ext) 0 used) ⌝ }
     ensures { λ r. ⌜ r ≡ endsBy page (slotsFrom (now (ext .entry)) 0 used) ⌝ }
 {
     let mut first: usize = 0;
@@ -50,7 +50,7 @@ pub struct Sides {
 
 // How many of the extents in use start before l: those before the first that ends after l, and that one where it does.
 fn starting_before(ext: &[u32], used: usize, first: usize, l: u32) -> usize
-    requires { ⌜ (3 * used ≤ length (now ext)) × Sound (slotsFrom (now ext) 0 used) × (first ≡ endsBy l (slotsFrom (now ext) 0 used)) ⌝ }
+    requires { ⌜ (3 * used ≤ length (now ext)) × SoundMap (slotsFrom (now ext) 0 used) × (first ≡ endsBy l (slotsFrom (now ext) 0 used)) ⌝ }
     ensures { λ r. ⌜ r ≡ startsBefore l (slotsFrom (now (ext .entry)) 0 used) ⌝ }
 {
     if used <= first {
@@ -65,7 +65,7 @@ fn starting_before(ext: &[u32], used: usize, first: usize, l: u32) -> usize
 
 // Where the n logical pages from l on meet the extents in use, whether there are such pages or not.
 pub fn around(ext: &[u32], used: usize, l: u32, n: u32) -> Sides
-    requires { ⌜ (3 * used ≤ length (now ext)) × Sound (slotsFrom (now ext) 0 used) ⌝ }
+    requires { ⌜ (3 * used ≤ length (now ext)) × SoundMap (slotsFrom (now ext) 0 used) ⌝ }
     ensures { λ r. ⌜ Beside l (l + n) (slotsFrom (now (ext .entry)) 0 used) r ⌝ }
 {
     let first = first_after(ext, used, l as u64);

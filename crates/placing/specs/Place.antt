@@ -16,7 +16,7 @@ use Rattle.rules.specs.Calls.{over}
 use Rattle.rules.specs.declared.Extent.{Extent}
 use Rattle.laws.specs.Cells.{length-tabulate}
 use Rattle.laws.specs.Slots.{put-slot-sets}
-use Rattle.laws.specs.Spread.{startOf, listed, listed-none, listed-some}
+use Rattle.laws.specs.Spread.{startBlock, withPiece, listed-none, listed-some}
 use Rattle.laws.specs.Alike.{Alike, alike-targets, alike-puts, alike-pieces}
 use Rattle.placing.specs.Bare.{fillsOf, bare}
 use Rattle.placing.specs.Blocks.{raised, raised-none}
@@ -28,7 +28,7 @@ abbrev pub pieceIn : List ℕ → ℕ → ℕ → ℕ → ℕ → Extent
 pieceIn blk b n l m = extent l (b * n + fillWord blk b) m
 
 -- the words have room for m pages of block b and for piece k
-pub record Fits (blk spare out : List ℕ) (b n l m k : ℕ) : Type 0 where
+pub record RoomFor (blk spare out : List ℕ) (b n l m k : ℕ) : Type 0 where
   pub inside : HasBlock blk b
   pub small : b * n + n ≤ 262144
   pub whole : b * n + n ≤ length spare
@@ -40,10 +40,10 @@ pub record Fits (blk spare out : List ℕ) (b n l m k : ℕ) : Type 0 where
   pub slot : 0 < m → 3 * k + 3 ≤ length out
 
 pub record PlacedIn (blk spare out blk′ spare′ out′ : List ℕ) (b n l m k r : ℕ) : Type 0 where
-  pub many : r ≡ k + length (listed (pieceIn blk b n l m) [])
+  pub many : r ≡ k + length (withPiece (pieceIn blk b n l m) [])
   pub records : blk′ ≡ raised m b blk
   pub labels : spare′ ≡ sets spare (b * n + fillWord blk b) (tabulate m (λ i. l + i))
-  pub pieces : out′ ≡ sets out (3 * k) (flat (listed (pieceIn blk b n l m) []))
+  pub pieces : out′ ≡ sets out (3 * k) (flat (withPiece (pieceIn blk b n l m) []))
 
 -- a part comes back with as many words as were lent
 pub put-part : (a e : ℕ) (xs ys : List ℕ) → a ≤ e → e ≤ length xs → length ys ≡ e - a → putMid a (e - a) xs ys ≡ sets xs a ys
@@ -86,14 +86,14 @@ placed-some blk spare out blk′ ys out′ b n l m k f e s h labels records piec
 -- ---- what it comes to
 
 -- what a write has to bring: free pages, and an answer buffer long enough
-pub record Ready (blocks n reserve from l want : ℕ) (blk spare out : List ℕ) : Type 0 where
+pub record Placeable (blocks n reserve from l want : ℕ) (blk spare out : List ℕ) : Type 0 where
   pub blk-size : stride * blocks ≤ length blk
   pub spare-size : blocks * n ≤ length spare
   pub blocks-few : blocks ≤ 1024
   pub pages-few : n ≤ 256
   pub valid : (b : ℕ) → b < blocks → validWord blk b ≤ fillWord blk b
   pub lines : l + want ≤ none
-  pub start : from ≡ startOf n reserve (fillsOf blocks blk) want
+  pub start : from ≡ startBlock n reserve (fillsOf blocks blk) want
   pub room : want ≤ free (bare blocks n reserve blk spare)
   pub slots : 3 * length (pieces l want (bare blocks n reserve blk spare)) ≤ length out
 

@@ -10,7 +10,7 @@ use Rattle.rules.specs.Extents.{extent}
 use Rattle.rules.specs.Blocks.{fillWord}
 use Rattle.rules.specs.declared.Extent.{Extent}
 use Rattle.laws.specs.Cells.{block-le}
-use Rattle.laws.specs.Spread.{taken, listed, spread, spread-skip, spread-some, spread-length, tabulate-each}
+use Rattle.laws.specs.Spread.{taken, withPiece, spread, spread-skip, spread-some, spread-length, tabulate-each}
 use Rattle.placing.specs.Bare.{fillsOf}
 use Rattle.placing.specs.Blocks.{fillsFrom}
 
@@ -66,7 +66,7 @@ module _ (n reserve blocks : ℕ) (blk : List ℕ) where
         ap (λ (fs : List ℕ). spread n reserve fs b l want) fills-next
         ∙ spread-some n reserve (fillWord blk b) (fillsFrom (blocks - (b + 1)) (b + 1) blk) b l want e
 
-    pub rest-next : rest b l want ≡ listed (extent l (b * n + fillWord blk b) (takes b want)) (rest (b + 1) (l + takes b want) (want - takes b want))
+    pub rest-next : rest b l want ≡ withPiece (extent l (b * n + fillWord blk b) (takes b want)) (rest (b + 1) (l + takes b want) (want - takes b want))
     unfolding rest spread
     rest-next = ap (λ (fs : List ℕ). spread n reserve fs b l want) fills-next
 

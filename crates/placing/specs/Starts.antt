@@ -18,8 +18,8 @@ use Rattle.rules.specs.Placement.{pieces}
 use Rattle.rules.specs.declared.Extent.{Extent}
 use Rattle.laws.specs.Cells.{length-tabulate, getD-tabulate}
 use Rattle.laws.specs.Picks.{first-le, first-passes, first-least, first-is, first-none}
-use Rattle.laws.specs.Device.{Sound}
-use Rattle.laws.specs.Spread.{taken, startOf}
+use Rattle.laws.specs.Device.{SoundDevice}
+use Rattle.laws.specs.Spread.{taken, startBlock}
 use Rattle.laws.specs.Order.{spread-pieces, start-inside}
 use Rattle.laws.specs.Alike.{Alike, alike-free, alike-pieces}
 use Rattle.laws.specs.Growth.{firstPlace, pieces-begin}
@@ -29,7 +29,7 @@ use Rattle.placing.specs.declared.Start.{Start}
 
 -- what `start_of` finds for `want` pages
 pub record Starts (n reserve blocks : ℕ) (blk : List ℕ) (want : ℕ) (r : Start) : Type 0 where
-  pub block : r .block ≡ startOf n reserve (fillsOf blocks blk) want
+  pub block : r .block ≡ startBlock n reserve (fillsOf blocks blk) want
   pub page : r .block < blocks → r .page ≡ r .block * n + fillWord blk (r .block)
 
 -- the page of the first piece, or 0 where there is none
@@ -59,27 +59,27 @@ module _ (n reserve blocks : ℕ) (blk : List ℕ) (want : ℕ) where
       (λ a. let k : j ≡ b = omega arith in ap (λ (x : ℕ). takes n reserve blocks blk x want) k ∙ e)
 
   pub start-found : (b : ℕ) → b < blocks → 0 < takes n reserve blocks blk b want → Skips b
-      → b ≡ startOf n reserve (fillsOf blocks blk) want
-  unfolding startOf
+      → b ≡ startBlock n reserve (fillsOf blocks blk) want
+  unfolding startBlock
   start-found b h s t =
       sym (first-is (length (fillsOf blocks blk)) test b (omega (arith, size))
       (lt-ltb 0 (taken n reserve b (getD (fillsOf blocks blk) b 0) want) (omega (arith, taken-at b h)))
       (λ j a. le-ltb 0 (taken n reserve j (getD (fillsOf blocks blk) j 0) want) (omega (arith, taken-at j (omega arith), t j a))))
 
-  pub start-none : (b : ℕ) → b ≡ blocks → Skips b → b ≡ startOf n reserve (fillsOf blocks blk) want
-  unfolding startOf
+  pub start-none : (b : ℕ) → b ≡ blocks → Skips b → b ≡ startBlock n reserve (fillsOf blocks blk) want
+  unfolding startBlock
   start-none b e t =
       e ∙ sym size ∙ sym (first-none (length (fillsOf blocks blk)) test
       (λ j a. let h : j < blocks = omega (arith, size) in
       le-ltb 0 (taken n reserve j (getD (fillsOf blocks blk) j 0) want) (omega (arith, taken-at j h, t j (omega arith)))))
 
-  module _ (from : ℕ) (is : from ≡ startOf n reserve (fillsOf blocks blk) want) where
+  module _ (from : ℕ) (is : from ≡ startBlock n reserve (fillsOf blocks blk) want) where
     pub start-le : from ≤ blocks
-    unfolding startOf
+    unfolding startBlock
     start-le = omega (arith, is, first-le (length (fillsOf blocks blk)) test, size)
 
     pub before-start : Skips from
-    unfolding startOf
+    unfolding startBlock
     before-start j h =
         let t = taken n reserve j (getD (fillsOf blocks blk) j 0) want in
         omega (
@@ -89,7 +89,7 @@ module _ (n reserve blocks : ℕ) (blk : List ℕ) (want : ℕ) where
         )
 
     at-start : from < blocks → 0 < takes n reserve blocks blk from want
-    unfolding startOf
+    unfolding startBlock
     at-start h =
         let t = taken n reserve from (getD (fillsOf blocks blk) from 0) want in
         let passes : test from ≡ true = ap test is ∙ first-passes (length (fillsOf blocks blk)) test (omega (arith, is, size)) in
@@ -104,13 +104,13 @@ module _ (n reserve blocks : ℕ) (blk : List ℕ) (want : ℕ) where
 
 -- ---- on a device with these pages, fills, labels and reserve
 
-module _ (blocks n reserve : ℕ) (blk spare : List ℕ) (d : Device) (a : Alike (bare blocks n reserve blk spare) d) (s : Sound d)
+module _ (blocks n reserve : ℕ) (blk spare : List ℕ) (d : Device) (a : Alike (bare blocks n reserve blk spare) d) (s : SoundDevice d)
     (l want : ℕ) (some : 0 < want) (f : want ≤ free d) (h : l + want ≤ lines d) where
-  start-same : startOf n reserve (fillsOf blocks blk) want ≡ startOf (d .pages) (d .reserve) (d .fills) want
+  start-same : startBlock n reserve (fillsOf blocks blk) want ≡ startBlock (d .pages) (d .reserve) (d .fills) want
   unfolding bare
   start-same = rw (a .pages, a .fills, a .reserve)
 
-  pub pieces-on : (from : ℕ) → from ≡ startOf n reserve (fillsOf blocks blk) want → rest n reserve blocks blk from l want ≡ pieces l want d
+  pub pieces-on : (from : ℕ) → from ≡ startBlock n reserve (fillsOf blocks blk) want → rest n reserve blocks blk from l want ≡ pieces l want d
   unfolding bare
   pieces-on from e =
       let b = bare blocks n reserve blk spare in

@@ -18,17 +18,17 @@ use Rattle.rules.specs.Calls.{over}
 use Rattle.rules.specs.declared.Extent.{Extent}
 use Rattle.laws.specs.Slots.{flat-length}
 use Rattle.laws.specs.Cells.{block-le, length-tabulate, getD-tabulate}
-use Rattle.laws.specs.Spread.{startOf, listed, spread, filled, labelled, listed-none, listed-some, taken-le, taken-room}
+use Rattle.laws.specs.Spread.{startBlock, withPiece, spread, filled, labelled, listed-none, listed-some, taken-le, taken-room}
 use Rattle.laws.specs.Order.{spread-pieces, puts-filled, puts-labelled, puts-rise}
 use Rattle.placing.specs.Bare.{fillsOf, bare}
 use Rattle.placing.specs.Blocks.{raised, raises, raised-length, raised-rise, raised-after, raises-fills, raises-rise, raises-skipped}
 use Rattle.placing.specs.Rest.{rest, takes, page-small, fills-all, rest-start, rest-next, rest-end}
 use Rattle.placing.specs.Starts.{start-le, before-start, rest-from}
-use Rattle.placing.specs.Place.{pieceIn, Fits, PlacedIn, Ready, Placed}
+use Rattle.placing.specs.Place.{pieceIn, RoomFor, PlacedIn, Placeable, Placed}
 
 -- ---- a piece in front of others
 
-labelled-listed : (e : Extent) (es : List Extent) (s : List ℕ) → labelled (listed e es) s ≡ labelled es (sets s (e .physical) (tabulate (e .count) (λ i. e .logical + i)))
+labelled-listed : (e : Extent) (es : List Extent) (s : List ℕ) → labelled (withPiece e es) s ≡ labelled es (sets s (e .physical) (tabulate (e .count) (λ i. e .logical + i)))
 unfolding labelled tabulate
 labelled-listed e es s =
     by-cases (decLt 0 (e .count))
@@ -37,8 +37,8 @@ labelled-listed e es s =
     ap (λ (xs : List Extent). labelled xs s) (listed-none e es z)
     ∙ sym (ap (λ (c : ℕ). labelled es (sets s (e .physical) (tabulate c (λ i. e .logical + i)))) z))
 
-flat-listed : (e : Extent) (es : List Extent) (out : List ℕ) (k r : ℕ) → r ≡ k + length (listed e [])
-    → sets out (3 * k) (flat (listed e es)) ≡ sets (sets out (3 * k) (flat (listed e []))) (3 * r) (flat es)
+flat-listed : (e : Extent) (es : List Extent) (out : List ℕ) (k r : ℕ) → r ≡ k + length (withPiece e [])
+    → sets out (3 * k) (flat (withPiece e es)) ≡ sets (sets out (3 * k) (flat (withPiece e []))) (3 * r) (flat es)
 unfolding flat
 flat-listed e es out k r h =
     by-cases (decLt 0 (e .count))
@@ -52,13 +52,13 @@ flat-listed e es out k r h =
     ∙ ap (λ (j : ℕ). sets out j (flat es)) z
     ∙ sym (ap (λ (xs : List Extent). sets (sets out (3 * k) (flat xs)) (3 * r) (flat es)) (listed-none e [] c)))
 
-length-listed : (e : Extent) (es : List Extent) → length (listed e es) ≡ length (listed e []) + length es
+length-listed : (e : Extent) (es : List Extent) → length (withPiece e es) ≡ length (withPiece e []) + length es
 length-listed e es =
     by-cases (decLt 0 (e .count))
     (λ s. omega (arith, ap length (listed-some e es s), ap length (listed-some e [] s)))
     (λ s. let c : e .count ≡ 0 = omega arith in omega (arith, ap length (listed-none e es c), ap length (listed-none e [] c)))
 
-listed-le : (e : Extent) → length (listed e []) ≤ 1
+listed-le : (e : Extent) → length (withPiece e []) ≤ 1
 listed-le e =
     by-cases (decLt 0 (e .count))
     (λ s. omega (arith, ap length (listed-some e [] s)))
@@ -82,7 +82,7 @@ pub record Placing (n reserve blocks l want : ℕ) (blk₀ spare₀ out₀ blk s
 
 module _ (n reserve blocks l want : ℕ) (blk₀ spare₀ out₀ : List ℕ) where
   -- with the block that the write starts with
-  pub placing-start : (from : ℕ) → from ≡ startOf n reserve (fillsOf blocks blk₀) want → ((j : ℕ) → j < blocks → validWord blk₀ j ≤ fillWord blk₀ j)
+  pub placing-start : (from : ℕ) → from ≡ startBlock n reserve (fillsOf blocks blk₀) want → ((j : ℕ) → j < blocks → validWord blk₀ j ≤ fillWord blk₀ j)
       → Placing n reserve blocks l want blk₀ spare₀ out₀ blk₀ spare₀ out₀ from 0 0
   placing-start from e v =
       let z : l + 0 ≡ l = omega arith in
@@ -105,12 +105,12 @@ module _ (n reserve blocks l want : ℕ) (blk₀ spare₀ out₀ : List ℕ) whe
       }
 
 rest-step : (n reserve blocks : ℕ) (blk : List ℕ) (b l want m : ℕ) → b < blocks → HasBlock blk b → m ≡ takes n reserve blocks blk b want
-    → rest n reserve blocks blk b l want ≡ listed (pieceIn blk b n l m) (rest n reserve blocks (raised m b blk) (b + 1) (l + m) (want - m))
+    → rest n reserve blocks blk b l want ≡ withPiece (pieceIn blk b n l m) (rest n reserve blocks (raised m b blk) (b + 1) (l + m) (want - m))
 unfolding rest
 rest-step n reserve blocks blk b l want m h s t =
     rest-next n reserve blocks blk b l want h
-    ∙ ap (λ (x : ℕ). listed (pieceIn blk b n l x) (rest n reserve blocks blk (b + 1) (l + x) (want - x))) (sym t)
-    ∙ ap (λ (fs : List ℕ). listed (pieceIn blk b n l m) (spread n reserve fs (b + 1) (l + m) (want - m)))
+    ∙ ap (λ (x : ℕ). withPiece (pieceIn blk b n l x) (rest n reserve blocks blk (b + 1) (l + x) (want - x))) (sym t)
+    ∙ ap (λ (fs : List ℕ). withPiece (pieceIn blk b n l m) (spread n reserve fs (b + 1) (l + m) (want - m)))
     (sym (raised-after m b blk s (blocks - (b + 1)) (b + 1) (omega arith)))
 
 -- the pieces of the way are 01's
@@ -119,7 +119,7 @@ unfolding bare
 bare-words blocks n reserve blk spare s t =
     rw (length-tabulate blocks (fillWord blk)) (omega (arith, mul-le-mul {n₁ = blocks} {m₁ = n} {n₂ = 1024} {m₂ = 256} s t))
 
-module _ (blocks n reserve from l want : ℕ) (blk spare out : List ℕ) (q : Ready blocks n reserve from l want blk spare out) where
+module _ (blocks n reserve from l want : ℕ) (blk spare out : List ℕ) (q : Placeable blocks n reserve from l want blk spare out) where
   pub ready-pieces : rest n reserve blocks blk 0 l want ≡ pieces l want (bare blocks n reserve blk spare)
   unfolding bare
   ready-pieces =
@@ -186,7 +186,7 @@ module _ (blocks n reserve from l want : ℕ) (blk spare out : List ℕ) (q : Re
 
 -- ---- one block more
 
-module _ (n reserve blocks from l want : ℕ) (blk₀ spare₀ out₀ : List ℕ) (q : Ready blocks n reserve from l want blk₀ spare₀ out₀)
+module _ (n reserve blocks from l want : ℕ) (blk₀ spare₀ out₀ : List ℕ) (q : Placeable blocks n reserve from l want blk₀ spare₀ out₀)
     (blk spare out : List ℕ) (b done k : ℕ) (p : Placing n reserve blocks l want blk₀ spare₀ out₀ blk spare out b done k) where
   module _ (m : ℕ) (h : b < blocks) (t : m ≡ takes n reserve blocks blk b (want - done)) where
     step-inside : HasBlock blk b
@@ -197,14 +197,14 @@ module _ (n reserve blocks from l want : ℕ) (blk₀ spare₀ out₀ : List ℕ
 
     -- the pieces from here on: block b's, and the others'
     step-rest : rest n reserve blocks blk b (l + done) (want - done)
-        ≡ listed (pieceIn blk b n (l + done) m) (rest n reserve blocks (raised m b blk) (b + 1) (l + (done + m)) (want - (done + m)))
+        ≡ withPiece (pieceIn blk b n (l + done) m) (rest n reserve blocks (raised m b blk) (b + 1) (l + (done + m)) (want - (done + m)))
     step-rest =
         let x : l + done + m ≡ l + (done + m) = omega arith in
         let y : want - done - m ≡ want - (done + m) = omega arith in
         rest-step n reserve blocks blk b (l + done) (want - done) m h step-inside t
-        ∙ ap₂ (λ (i j : ℕ). listed (pieceIn blk b n (l + done) m) (rest n reserve blocks (raised m b blk) (b + 1) i j)) x y
+        ∙ ap₂ (λ (i j : ℕ). withPiece (pieceIn blk b n (l + done) m) (rest n reserve blocks (raised m b blk) (b + 1) i j)) x y
 
-    pub placing-fits : Fits blk spare out b n (l + done) m k
+    pub placing-fits : RoomFor blk spare out b n (l + done) m k
     placing-fits = record {
       inside = step-inside;
       small = page-small blocks n b n h (q .blocks-few) (q .pages-few) (omega arith);
@@ -242,7 +242,7 @@ module _ (n reserve blocks from l want : ℕ) (blk₀ spare₀ out₀ : List ℕ
           rank = omega (arith, w .many, listed-le e, p .rank);
           blk-size = ap length (w .records) ∙ raised-length m b blk ∙ p .blk-size;
           spare-size = ap length (w .labels) ∙ length-sets spare (b * n + fillWord blk b) (tabulate m (λ i. l + done + i)) ∙ p .spare-size;
-          out-size = ap length (w .pieces) ∙ length-sets out (3 * k) (flat (listed e [])) ∙ p .out-size;
+          out-size = ap length (w .pieces) ∙ length-sets out (3 * k) (flat (withPiece e [])) ∙ p .out-size;
           valid = λ j s. omega (
             arith,
             raised-rise m b blk step-inside j,

@@ -10,7 +10,7 @@ ghost use Rattle.placing.specs.Bare.{bare};
 ghost use Rattle.placing.specs.Blocks.{raised};
 ghost use Rattle.placing.specs.Rest.{rest};
 ghost use Rattle.placing.specs.Starts.{Starts};
-ghost use Rattle.placing.specs.Place.{Fits, PlacedIn, Ready, Placed};
+ghost use Rattle.placing.specs.Place.{RoomFor, PlacedIn, Placeable, Placed};
 
 // What block b takes of `want` pages.
 fn room_in(blk: &[u32], b: usize, n: u32, reserve: u32, want: u32) -> u32
@@ -96,7 +96,7 @@ fn place_in(
     m: u32,
     k: u32,
 ) -> u32
-    requires { ⌜ Fits (now blk) (now spare) (now out) b n l m k ⌝ }
+    requires { ⌜ RoomFor (now blk) (now spare) (now out) b n l m k ⌝ }
     ensures { λ r. ⌜ PlacedIn (now (blk .entry)) (now (spare .entry)) (now (out .entry)) (now (blk .exit)) (now (spare .exit)) (now (out .exit)) b n l m k r ⌝ }
 {
     if m == 0 {
@@ -127,7 +127,7 @@ pub fn place(
     l: u32,
     want: u32,
 ) -> u32
-    requires { ⌜ Ready blocks n reserve from l want (now blk) (now spare) (now out) ⌝ }
+    requires { ⌜ Placeable blocks n reserve from l want (now blk) (now spare) (now out) ⌝ }
     ensures { λ r. ⌜ Placed (bare blocks n reserve (now (blk .entry)) (now (spare .entry))) l want (now (blk .entry)) (now (out .entry)) (now (blk .exit)) (now (spare .exit)) (now (out .exit)) r ⌝ }
 {
     let mut done: u32 = 0;

@@ -16,9 +16,9 @@ use Rattle.laws.specs.Runs.{joinable-first, join-joined, join-apart}
 use Rattle.laws.specs.Cut.{below, from, cut, below-rows}
 use Rattle.laws.specs.Write.{glue, place}
 use Rattle.laws.specs.Counts.{startsBefore, leftJoin, tally, tip, not-next, join-next, no-right, below-joins, below-length}
-use Rattle.laws.specs.Slots.{slots-length, slots-more}
+use Rattle.laws.specs.Slots.{blank, slots-length, slots-more}
 use Rattle.map.specs.Padded.{padded, Holds, Becomes, became-length, became-slots, became-holds, holds-put}
-use Rattle.map.specs.Clip.{blank, at-slot}
+use Rattle.map.specs.Clip.{at-slot}
 
 -- an extent with c pages more
 abbrev pub longer : ℕ → Extent → Extent

@@ -17,7 +17,7 @@ use Rattle.laws.specs.Bools.{cases}
 use Rattle.laws.specs.Unique.{extent-path}
 use Rattle.laws.specs.Cut.{below, from, below-none, below-part, below-all, from-none, from-part, from-all}
 use Rattle.laws.specs.Slots.{slots-first}
-use Rattle.map.specs.Sound.{Sound, sound-piece, sound-order}
+use Rattle.map.specs.Sound.{SoundMap, sound-piece, sound-order}
 use Rattle.map.specs.Halved.{endsBy, from-there}
 
 -- the extents from logical page l up to e, each clipped, and each maximal hole
@@ -159,7 +159,7 @@ unfolding slotsFrom below
 below-slots e ws j zero h = refl
 below-slots e ws j (suc m) h = below-none e (slot ws j) (slotsFrom ws (j + 1) m) (h (omega arith))
 
-module _ (ws : List ℕ) (u pos e i : ℕ) (sound : Sound (slotsFrom ws 0 u)) (h : i < u) (p : pos ≤ e) where
+module _ (ws : List ℕ) (u pos e i : ℕ) (sound : SoundMap (slotsFrom ws 0 u)) (h : i < u) (p : pos ≤ e) where
   some : (j : ℕ) → j < u → 0 < slot ws j .count
   some j q = sound-piece ws u sound j q .some
 
@@ -186,16 +186,16 @@ walk-over ws u pos e i h =
     ap (λ (m : ℕ). between pos e (slotsFrom ws i m)) z ∙ between-none pos e
 
 -- a read may start at the first slot that ends after l
-pub walk-start : (l e i : ℕ) (ws : List ℕ) (u : ℕ) → Sound (slotsFrom ws 0 u) → i ≡ endsBy l (slotsFrom ws 0 u) → between l e (slotsFrom ws 0 u) ≡ between l e (slotsFrom ws i (u - i))
+pub walk-start : (l e i : ℕ) (ws : List ℕ) (u : ℕ) → SoundMap (slotsFrom ws 0 u) → i ≡ endsBy l (slotsFrom ws 0 u) → between l e (slotsFrom ws 0 u) ≡ between l e (slotsFrom ws i (u - i))
 walk-start l e i ws u s h = ap (λ (es : List Extent). withHoles l e (below e es)) (from-there ws u l i s h)
 
 -- ---- how many pieces it finds: k so far
 
-pub count-start : (l e i : ℕ) (ws : List ℕ) (u : ℕ) → Sound (slotsFrom ws 0 u) → i ≡ endsBy l (slotsFrom ws 0 u)
+pub count-start : (l e i : ℕ) (ws : List ℕ) (u : ℕ) → SoundMap (slotsFrom ws 0 u) → i ≡ endsBy l (slotsFrom ws 0 u)
     → length (between l e (slotsFrom ws 0 u)) ≡ 0 + length (between l e (slotsFrom ws i (u - i)))
 count-start l e i ws u s h = ap length (walk-start l e i ws u s h) ∙ omega arith
 
-pub count-more : (ws : List ℕ) (u pos e i k j total : ℕ) → Sound (slotsFrom ws 0 u) → i < u → pos ≤ e → starts pos (slot ws i) < e
+pub count-more : (ws : List ℕ) (u pos e i k j total : ℕ) → SoundMap (slotsFrom ws 0 u) → i < u → pos ≤ e → starts pos (slot ws i) < e
     → total ≡ k + length (between pos e (slotsFrom ws i (u - i))) → j ≡ length (tells pos e (slot ws i))
     → total ≡ k + j + length (between (reaches pos e (slot ws i)) e (slotsFrom ws (i + 1) (u - (i + 1))))
 count-more ws u pos e i k j total sound h p s t g =

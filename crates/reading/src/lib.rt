@@ -7,7 +7,7 @@ ghost use mathlib.Core.List.{[]};
 ghost use lib.ListN.{length};
 ghost use Rattle.rules.specs.Extents.{flat, slot, slotsFrom};
 ghost use Rattle.rules.specs.Read.{withHole};
-ghost use Rattle.map.specs.Sound.{Sound, Piece};
+ghost use Rattle.map.specs.Sound.{SoundMap, Piece};
 ghost use Rattle.map.specs.Halved.{endsBy};
 ghost use Rattle.reading.specs.Walk.{between, starts, reaches, tells};
 ghost use Rattle.rules.specs.Calls.{over};
@@ -67,7 +67,7 @@ fn last_hole(pos: u32, e: u32) -> usize
 
 // How many pieces a read of the logical pages from l up to e finds, where `first` is the first slot that ends after l.
 pub fn count_found(ext: &[u32], used: usize, first: usize, l: u32, e: u32) -> usize
-    requires { ⌜ (3 * used ≤ length (now ext)) × (l ≤ e) × Sound (slotsFrom (now ext) 0 used) × (first ≡ endsBy l (slotsFrom (now ext) 0 used)) ⌝ }
+    requires { ⌜ (3 * used ≤ length (now ext)) × (l ≤ e) × SoundMap (slotsFrom (now ext) 0 used) × (first ≡ endsBy l (slotsFrom (now ext) 0 used)) ⌝ }
     ensures { λ r. ⌜ r ≡ length (between l e (slotsFrom (now (ext .entry)) 0 used)) ⌝ }
 {
     let mut count: usize = 0;
@@ -130,7 +130,7 @@ fn put_slot(ext: &[u32], i: usize, pos: u32, e: u32, out: &mut [u32], k: usize) 
 // What a read of the logical pages from l up to e finds, in the first words of the answer buffer, where `first` is the first slot that ends
 // after l: how many pieces.
 pub fn list_found(ext: &[u32], used: usize, first: usize, l: u32, e: u32, out: &mut [u32]) -> usize
-    requires { ⌜ (3 * used ≤ length (now ext)) × (l ≤ e) × Sound (slotsFrom (now ext) 0 used) × (first ≡ endsBy l (slotsFrom (now ext) 0 used)) ⌝ }
+    requires { ⌜ (3 * used ≤ length (now ext)) × (l ≤ e) × SoundMap (slotsFrom (now ext) 0 used) × (first ≡ endsBy l (slotsFrom (now ext) 0 used)) ⌝ }
     requires { ⌜ 3 * length (between l e (slotsFrom (now ext) 0 used)) ≤ length (now out) ⌝ }
     ensures { λ r. ⌜ (r ≡ length (between l e (slotsFrom (now (ext .entry)) 0 used))) × (now (out .exit) ≡ over (flat (between l e (slotsFrom (now (ext .entry)) 0 used))) (now (out .entry))) ⌝ }
 {

@@ -11,7 +11,7 @@ use lib.ListN.{length, getD, set, take, replicate}
 use lib.Seq.{sets, take-suc, getD-take, length-take-le}
 use Rattle.rules.specs.Extents.{none}
 use Rattle.rules.specs.Reclaim.{copied}
-use Rattle.laws.specs.Cells.{block-le, swept, copies, copies-copied, length-copied}
+use Rattle.laws.specs.Cells.{block-le, swept, copiesInto, copies-copied, length-copied}
 use Rattle.choosing.specs.Part.{part-filled}
 
 -- the first k words of ps are pages of block v, and all their labels have room in block r
@@ -29,32 +29,32 @@ word-any [] i a b h = absurd (omega arith)
 word-any (x ∷ xs) zero a b h = refl
 word-any (x ∷ xs) (suc i) a b h = word-any xs i a b (omega arith)
 
-copies-more : (ps : List ℕ) (p a : ℕ) (xs : List ℕ) → copies none a (ps ++ p ∷ []) xs ≡ set (copies none a ps xs) (a + length ps) (getD (copies none a ps xs) p none)
-unfolding copies
+copies-more : (ps : List ℕ) (p a : ℕ) (xs : List ℕ) → copiesInto none a (ps ++ p ∷ []) xs ≡ set (copiesInto none a ps xs) (a + length ps) (getD (copiesInto none a ps xs) p none)
+unfolding copiesInto
 copies-more [] p a xs = let e : a + 0 ≡ a = omega arith in rw e
 copies-more (q ∷ ps) p a xs =
     let e : suc a + length ps ≡ a + suc (length ps) = omega arith in
-    let ys = copies none (suc a) ps (set xs a (getD xs q none)) in
+    let ys = copiesInto none (suc a) ps (set xs a (getD xs q none)) in
     copies-more ps p (suc a) (set xs a (getD xs q none)) ∙ ap (λ (i : ℕ). set ys i (getD ys p none)) e
 
-pub labels-start : (a : ℕ) (ps xs : List ℕ) → xs ≡ copies none a (take 0 ps) xs
-unfolding copies
+pub labels-start : (a : ℕ) (ps xs : List ℕ) → xs ≡ copiesInto none a (take 0 ps) xs
+unfolding copiesInto
 labels-start a ps xs = refl
 
-pub labels-next : (a : ℕ) (ps xs xs′ : List ℕ) (i : ℕ) → i < length ps → getD ps i 0 < length xs′ → xs′ ≡ copies none a (take i ps) xs
-    → set xs′ (a + i) (getD xs′ (getD ps i 0) 0) ≡ copies none a (take (i + 1) ps) xs
+pub labels-next : (a : ℕ) (ps xs xs′ : List ℕ) (i : ℕ) → i < length ps → getD ps i 0 < length xs′ → xs′ ≡ copiesInto none a (take i ps) xs
+    → set xs′ (a + i) (getD xs′ (getD ps i 0) 0) ≡ copiesInto none a (take (i + 1) ps) xs
 labels-next a ps xs xs′ i h l e =
     let p = getD ps i 0 in
     let size : a + length (take i ps) ≡ a + i = ap (λ (k : ℕ). a + k) (length-take-le i ps (omega arith)) in
     ap (set xs′ (a + i)) (word-any xs′ p 0 none l)
     ∙ ap (λ (ys : List ℕ). set ys (a + i) (getD ys p none)) e
-    ∙ sym (ap (λ (k : ℕ). copies none a (take k ps) xs) (add-one i)
-    ∙ ap (λ (qs : List ℕ). copies none a qs xs) (take-suc ps i 0 h)
+    ∙ sym (ap (λ (k : ℕ). copiesInto none a (take k ps) xs) (add-one i)
+    ∙ ap (λ (qs : List ℕ). copiesInto none a qs xs) (take-suc ps i 0 h)
     ∙ copies-more (take i ps) p a xs
-    ∙ ap (λ (k : ℕ). set (copies none a (take i ps) xs) k (getD (copies none a (take i ps) xs) p none)) size)
+    ∙ ap (λ (k : ℕ). set (copiesInto none a (take i ps) xs) k (getD (copiesInto none a (take i ps) xs) p none)) size)
 
 -- no label is read after it was stored: the sources lie in another block
-labels-copied : (n r v : ℕ) (ps : List ℕ) (k : ℕ) (xs : List ℕ) → Copied n r v ps k (length xs) → copies none (r * n) (take k ps) xs ≡ copied none (r * n) (take k ps) xs
+labels-copied : (n r v : ℕ) (ps : List ℕ) (k : ℕ) (xs : List ℕ) → Copied n r v ps k (length xs) → copiesInto none (r * n) (take k ps) xs ≡ copied none (r * n) (take k ps) xs
 labels-copied n r v ps k xs c =
     let size : length (take k ps) ≡ k = length-take-le k ps (c .listed) in
     copies-copied none (take k ps) (r * n) xs
@@ -69,7 +69,7 @@ labels-copied n r v ps k xs c =
     by-other t = omega (arith, c .other)
 
 pub labels-moved : (n r v : ℕ) (ps : List ℕ) (k : ℕ) (xs xs′ ys : List ℕ) → Copied n r v ps k (length xs)
-    → xs′ ≡ copies none (r * n) (take k ps) xs
+    → xs′ ≡ copiesInto none (r * n) (take k ps) xs
     → ys ≡ replicate (length (midOf (v * n) (v * n + n - v * n) xs′)) none
     → putMid (v * n) (v * n + n - v * n) xs′ ys ≡ swept none n r v (take k ps) xs
 unfolding swept

@@ -24,7 +24,7 @@ use Rattle.laws.specs.Rows.{Rows, lookup-before, lookup-in, lookup-after}
 use Rattle.laws.specs.Unique.{extent-path}
 use Rattle.laws.specs.Runs.{runs-rows, runs-lookup}
 use Rattle.laws.specs.Norm.{norm, move, movesTo, goes-moves, movesTo-here, movesTo-else}
-use Rattle.laws.specs.Device.{Sound, page-lt, none-block}
+use Rattle.laws.specs.Device.{SoundDevice, page-lt, none-block}
 use Rattle.laws.specs.Live.{stands, among-at}
 use Rattle.laws.specs.Reclaimed.{re-blocks, re-fill-victim, re-fill-reserve, re-fill, length-sources, few-sources, source, source-page, nth}
 use Rattle.laws.specs.Valid.{re-valid-victim, re-valid-reserve, re-valid}
@@ -32,7 +32,7 @@ use Rattle.laws.specs.Ranked.{rows-ranked}
 use Rattle.laws.specs.Records.{records-length, records-fill, records-valid, words-records}
 use Rattle.laws.specs.States.{table-lines}
 use Rattle.laws.specs.Encoded.{reclaim-extents}
-use Rattle.choosing.specs.Covered.{holds, covered, holds-true, true-holds}
+use Rattle.choosing.specs.Covered.{hasPage, covered, holds-true, true-holds}
 use Rattle.choosing.specs.Ranks.{Ranks, rises, rises-live}
 use Rattle.reclaiming.specs.Remapped.{remapped}
 use Rattle.choosing.specs.Sources.{livePages, pages-same, length-below, length-over}
@@ -52,7 +52,7 @@ covered-line : (n hi : ℕ) (es : List Extent) (lo q v o : ℕ) → Rows n lo q 
 unfolding covered
 covered-line n hi [] lo q v o h t = absurd (false≢true t)
 covered-line n hi (e ∷ es) lo q v o h t =
-    cases (holds e (v * n + o))
+    cases (hasPage e (v * n + o))
     (λ s. let k = true-holds e (v * n + o) s in
     let l = e .logical + (v * n + o - e .physical) in
     record { line = l; above = omega (arith, h .0 .above); is = lookup-in e es l (omega arith) (omega (arith, k .0, k .1)) ∙ omega (arith, k .0) })
@@ -70,7 +70,7 @@ line-covered (x ∷ es) l n v o m e =
     (λ t. let g = lookup-in x es l (omega arith) t in
     rw (holds-true x (v * n + o) (omega arith) (omega arith)))
     (λ t. let g : covered es n v o ≡ true = line-covered es l n v o m (sym (lookup-after x es l (omega arith)) ∙ e) in
-    cases (holds x (v * n + o)) (λ s. rw s) (λ s. rw s g)))
+    cases (hasPage x (v * n + o)) (λ s. rw s) (λ s. rw s g)))
 
 -- words are the records of what stands in them
 tabulate-same : (fs : List ℕ) → tabulate (length fs) (λ i. getD fs i 0) ≡ fs
@@ -85,7 +85,7 @@ rows-ends n hi ws u h r i t = omega (arith, rows-ranked n hi ws u r .high i t)
 pub rows-inside : (n hi : ℕ) (ws : List ℕ) (u : ℕ) → Rows n 0 none hi (slotsFrom ws 0 u) → (i : ℕ) → i < u → slot ws i .physical % n + slot ws i .count ≤ n
 rows-inside n hi ws u r i t = rows-ranked n hi ws u r .inside i t
 
-module _ (d : Device) (s : Sound d) where
+module _ (d : Device) (s : SoundDevice d) where
   pub block-room : (b : ℕ) → b < blocks d → b * d .pages + d .pages ≤ none
   block-room b h = omega (arith, block-le (d .pages) b (blocks d) h, s .words)
 

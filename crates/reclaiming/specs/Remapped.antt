@@ -27,19 +27,19 @@ remapped n v r es = norm n (map (move (movesTo n (covered es n v) v r)) es)
 
 -- ---- where a page goes, by the ranks
 
-unfoldable pub place : ℕ → List ℕ → ℕ → ℕ → ℕ → ℕ
-place n ranks v r p = cond (eqb (p / n) v) (r * n + getD ranks (p % n) 0) p
+unfoldable pub rankedPage : ℕ → List ℕ → ℕ → ℕ → ℕ → ℕ
+rankedPage n ranks v r p = cond (eqb (p / n) v) (r * n + getD ranks (p % n) 0) p
 
 module _ (n : ℕ) (ranks : List ℕ) (v r p : ℕ) where
-  pub place-here : p / n ≡ v → place n ranks v r p ≡ r * n + getD ranks (p % n) 0
-  unfolding place
+  pub place-here : p / n ≡ v → rankedPage n ranks v r p ≡ r * n + getD ranks (p % n) 0
+  unfolding rankedPage
   place-here e = rw (eq-eqb (p / n) v e)
 
-  pub place-else : (p / n ≡ v → ⊥) → place n ranks v r p ≡ p
-  unfolding place
+  pub place-else : (p / n ≡ v → ⊥) → rankedPage n ranks v r p ≡ p
+  unfolding rankedPage
   place-else e = rw (ne-eqb (p / n) v e)
 
-  pub place-moves : (live : ℕ → Bool) → 0 < n → Ranks n live ranks → place n ranks v r p ≡ movesTo n live v r p
+  pub place-moves : (live : ℕ → Bool) → 0 < n → Ranks n live ranks → rankedPage n ranks v r p ≡ movesTo n live v r p
   place-moves live z h =
       by-cases (ℕ-discrete (p / n) v)
       (λ e. let m : p % n < n = mod-lt p z in
@@ -47,11 +47,11 @@ module _ (n : ℕ) (ranks : List ℕ) (v r p : ℕ) where
       (λ e. place-else e ∙ sym (movesTo-else n live v r p e))
 
 pub places-moved : (n : ℕ) (ranks : List ℕ) (v r : ℕ) (live : ℕ → Bool) (es : List Extent) → 0 < n → Ranks n live ranks
-    → map (move (place n ranks v r)) es ≡ map (move (movesTo n live v r)) es
+    → map (move (rankedPage n ranks v r)) es ≡ map (move (movesTo n live v r)) es
 places-moved n ranks v r live es z h =
-    map-same (move (place n ranks v r)) (move (movesTo n live v r)) (extent 0 0 0) es
+    map-same (move (rankedPage n ranks v r)) (move (movesTo n live v r)) (extent 0 0 0) es
     (λ i s. let e = getD es i (extent 0 0 0) in
-    extent-path (move (place n ranks v r) e) (move (movesTo n live v r) e) refl (place-moves n ranks v r (e .physical) live z h) refl)
+    extent-path (move (rankedPage n ranks v r) e) (move (movesTo n live v r) e) refl (place-moves n ranks v r (e .physical) live z h) refl)
 
 -- ---- joinable looks at where the first ends and where the second begins
 

@@ -21,7 +21,7 @@ use Rattle.words.specs.Parts.{mid-tail, put-tail}
 use Rattle.map.specs.Padded.{padded}
 use Rattle.choosing.specs.Covered.{covered}
 use Rattle.choosing.specs.Ranks.{Ranks}
-use Rattle.reclaiming.specs.Remapped.{remapped, place, places-moved, push, norm-push, push-last}
+use Rattle.reclaiming.specs.Remapped.{remapped, rankedPage, places-moved, push, norm-push, push-last}
 
 -- each of u slots ends at or below the greatest word
 abbrev pub Ends : List ℕ → ℕ → Type 0
@@ -166,6 +166,6 @@ packed-end g n ws ws′ ys i w l m h e =
 
 -- all of it
 pub moved-map : (ws : List ℕ) (u n : ℕ) (ranks : List ℕ) (v r : ℕ) → 0 < n → Ranks n (covered (slotsFrom ws 0 u) n v) ranks
-    → norm n (map (move (place n ranks v r)) (slotsFrom ws 0 u)) ≡ remapped n v r (slotsFrom ws 0 u)
+    → norm n (map (move (rankedPage n ranks v r)) (slotsFrom ws 0 u)) ≡ remapped n v r (slotsFrom ws 0 u)
 unfolding remapped
 moved-map ws u n ranks v r z h = ap (norm n) (places-moved n ranks v r (covered (slotsFrom ws 0 u) n v) (slotsFrom ws 0 u) z h)

@@ -7,12 +7,12 @@ ghost use Prim.Native.Nat.{ℕ, _+_, _*_, _<_, _≤_};
 ghost use lib.ListN.{length, getD, take};
 ghost use Rattle.rules.specs.Blocks.{HasBlock};
 ghost use Rattle.rules.specs.Extents.{none, end, joinable, slot, slotsFrom};
-ghost use Rattle.laws.specs.Cells.{copies, swept};
+ghost use Rattle.laws.specs.Cells.{copiesInto, swept};
 ghost use Rattle.laws.specs.Norm.{move};
 ghost use Rattle.map.specs.Padded.{padded};
 ghost use Rattle.choosing.specs.Covered.{covered};
 ghost use Rattle.choosing.specs.Ranks.{Ranks, Movable};
-ghost use Rattle.reclaiming.specs.Remapped.{place, remapped};
+ghost use Rattle.reclaiming.specs.Remapped.{rankedPage, remapped};
 ghost use Rattle.reclaiming.specs.Slot.{Ends, joinsLast, Pushed};
 ghost use Rattle.reclaiming.specs.Labels.{Copied};
 ghost use Rattle.reclaiming.specs.Emptied.{emptied};
@@ -20,7 +20,7 @@ ghost use Rattle.reclaiming.specs.Emptied.{emptied};
 // The page that page p goes to.
 fn page_after(p: u32, n: u32, v: u32, r: u32, ranks: &[u32]) -> u32
     requires { ⌜ Movable n r (now ranks) ⌝ }
-    ensures { λ q. ⌜ q ≡ place n (now (ranks .entry)) v r p ⌝ }
+    ensures { λ q. ⌜ q ≡ rankedPage n (now (ranks .entry)) v r p ⌝ }
 {
     if p / n != v {
         return p;
@@ -34,7 +34,7 @@ const NONE: u32 = 4294967295;
 // The labels of the first k pages listed, copied one after the other.
 fn copy_labels(spare: &mut [u32], out: &[u32], k: usize, to: usize)
     requires { ⌜ (k ≤ length (now out)) × (to + k ≤ length (now spare)) × ((i : ℕ) → i < k → getD (now out) i 0 < length (now spare)) ⌝ }
-    ensures { λ _. ⌜ now (spare .exit) ≡ copies none to (take k (now (out .entry))) (now (spare .entry)) ⌝ }
+    ensures { λ _. ⌜ now (spare .exit) ≡ copiesInto none to (take k (now (out .entry))) (now (spare .entry)) ⌝ }
 {
     let mut i: usize = 0;
     while i < k {
@@ -44,7 +44,7 @@ fn copy_labels(spare: &mut [u32], out: &[u32], k: usize, to: usize)
     }
 }
 
-// The labels go along with the copies, and the victim's are erased.
+// The labels go along with the copiesInto, and the victim's are erased.
 pub fn move_labels(spare: &mut [u32], out: &[u32], k: usize, n: u32, r: u32, v: u32)
     requires { ⌜ Copied n r v (now out) k (length (now spare)) ⌝ }
     ensures { λ _. ⌜ now (spare .exit) ≡ swept none n r v (take k (now (out .entry))) (now (spare .entry)) ⌝ }
@@ -88,7 +88,7 @@ fn joins(a: Extent, b: Extent, n: u32) -> bool
 // Slot i with its first page moved: the others go along.
 fn slot_after(ext: &[u32], i: usize, n: u32, v: u32, r: u32, ranks: &[u32]) -> Extent
     requires { ⌜ (3 * i + 2 < length (now ext)) × Movable n r (now ranks) ⌝ }
-    ensures { λ e. ⌜ e ≡ move (place n (now (ranks .entry)) v r) (slot (now (ext .entry)) i) ⌝ }
+    ensures { λ e. ⌜ e ≡ move (rankedPage n (now (ranks .entry)) v r) (slot (now (ext .entry)) i) ⌝ }
 {
     let at = 3 * i;
     let p = page_after(ext[at + 1], n, v, r, ranks);

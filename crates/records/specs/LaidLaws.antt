@@ -6,12 +6,8 @@ use mathlib.Core.List.{List, [], _∷_}
 use lib.ListN.{length, getD, take, drop, set}
 use Rattle.rules.specs.declared.Extent.{Extent}
 use Rattle.rules.specs.Extents.{extent, putSlot, flat}
-use Rattle.laws.specs.Slots.{flat-length}
+use Rattle.laws.specs.Slots.{blank, flat-length}
 use Rattle.records.specs.Laid.{put, laidAt, laid, First}
-
--- what an element that is not there would be
-abbrev pub blank : Extent
-blank = extent 0 0 0
 
 -- storing the slot puts the extent
 pub put-set : (ws : List ℕ) (i : ℕ) (e : Extent) → 3 * i + 2 < length ws → putSlot ws i e ≡ put ws i e

@@ -39,11 +39,11 @@ width (Call.read l n out) = 3
 width (Call.reclaim out) = 1
 width Call.report = 0
 
-unfoldable pub told : Call → Outcome Lent → List ℕ
-told c o = o .refusal ∷ (o .counts ++ take (width c * getD (o .counts) 0 0) (o .out))
+unfoldable pub answerOf : Call → Outcome Lent → List ℕ
+answerOf c o = o .refusal ∷ (o .counts ++ take (width c * getD (o .counts) 0 0) (o .out))
 
 unfoldable pub lookAt : Look → Lent → List ℕ
-lookAt (Look.answer c) s = told c (call c s)
+lookAt (Look.answer c) s = answerOf c (call c s)
 lookAt Look.theMap s = take (3 * s .head .used) (s .extentWords)
 lookAt Look.theReserve s = s .head .reserve ∷ []
 

@@ -6,7 +6,7 @@ use mathlib.Core.List.{List, [], _∷_, _++_}
 use lib.ListN.{replicate}
 use Rattle.rules.specs.Calls.{Call}
 use Rattle.rules.specs.Opened.{opened}
-use Rattle.rules.specs.Cases.{Case, Expect, Look, expect, told, lookAt, next, afterAll, seen, start, comes, musts, same, sames, holds}
+use Rattle.rules.specs.Cases.{Case, Expect, Look, expect, answerOf, lookAt, next, afterAll, seen, start, comes, musts, same, sames, holds}
 
 -- ---- the requests of the cases, with answer buffers of 48 words
 
@@ -111,5 +111,5 @@ marked =
 
 pub marked-holds : holds marked ≡ true
 unfolding opened
-    told lookAt next afterAll seen start comes musts same sames holds
+    answerOf lookAt next afterAll seen start comes musts same sames holds
 marked-holds = refl

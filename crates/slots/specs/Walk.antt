@@ -16,10 +16,10 @@ use Rattle.rules.specs.Counting.{sum}
 use Rattle.rules.specs.Blocks.{stride}
 use Rattle.rules.specs.Extents.{none, slotsFrom}
 use Rattle.laws.specs.Rows.{Rows, rows-le}
-use Rattle.laws.specs.Sane.{pagesIn}
+use Rattle.laws.specs.Sound.{pagesIn}
 use Rattle.laws.specs.Slots.{slots-first}
 use Rattle.words.specs.Says.{Says, says-yes, says-no}
-use Rattle.slots.specs.Slot.{Stands, Home}
+use Rattle.slots.specs.Slot.{SlotStands, HomeWords}
 
 -- what the walk is given: words of the right lengths, and a tally of zeros
 pub record Given (ext blk spare tally : List ℕ) (used blocks n : ℕ) : Type 0 where
@@ -35,7 +35,7 @@ pub record Given (ext blk spare tally : List ℕ) (used blocks n : ℕ) : Type 0
 
 -- rule 4 for slot i
 abbrev pub HomeOf : List ℕ → List ℕ → List ℕ → ℕ → ℕ → ℕ → Type 0
-HomeOf ext blk spare blocks n i = Home blk spare blocks n (getD ext (3 * i) 0) (getD ext (3 * i + 1) 0) (getD ext (3 * i + 2) 0)
+HomeOf ext blk spare blocks n i = HomeWords blk spare blocks n (getD ext (3 * i) 0) (getD ext (3 * i + 1) 0) (getD ext (3 * i + 2) 0)
 
 -- rules 1, 2 and 4 for the slots in use
 pub record Rowed (ext blk spare : List ℕ) (used blocks n top : ℕ) : Type 0 where
@@ -101,13 +101,13 @@ module _ {ext blk spare tally : List ℕ} {used blocks n : ℕ} where
 
 module _ {ext blk spare tally : List ℕ} {used blocks n top i lo q : ℕ} (h : Left ext blk spare tally used blocks n top i lo q) where
   -- a slot that does not stand there
-  pub left-bad : i < used → (Stands n top lo q (getD ext (3 * i) 0) (getD ext (3 * i + 1) 0) (getD ext (3 * i + 2) 0) → ⊥) → Rowed ext blk spare used blocks n top → ⊥
+  pub left-bad : i < used → (SlotStands n top lo q (getD ext (3 * i) 0) (getD ext (3 * i + 1) 0) (getD ext (3 * i + 2) 0) → ⊥) → Rowed ext blk spare used blocks n top → ⊥
   left-bad s g r =
       let t = rw (slots-first ext i used s) at (h .on (r .rows)) in
       g (record { row = t .0; ends = rows-le n top (slotsFrom ext (i + 1) (used - (i + 1))) _ _ (t .1) })
 
   module _ (s : i < used) (few : blocks ≤ 1024) (pages : n ≤ 256)
-      (g : Stands n top lo q (getD ext (3 * i) 0) (getD ext (3 * i + 1) 0) (getD ext (3 * i + 2) 0)) (k : HomeOf ext blk spare blocks n i) where
+      (g : SlotStands n top lo q (getD ext (3 * i) 0) (getD ext (3 * i + 1) 0) (getD ext (3 * i + 2) 0)) (k : HomeOf ext blk spare blocks n i) where
     pub left-step : Left ext blk spare (set tally (getD ext (3 * i + 1) 0 / n) (getD tally (getD ext (3 * i + 1) 0 / n) 0 + getD ext (3 * i + 2) 0)) used blocks n top
         (i + 1) (getD ext (3 * i) 0 + getD ext (3 * i + 2) 0) (getD ext (3 * i + 1) 0 + getD ext (3 * i + 2) 0)
     left-step =

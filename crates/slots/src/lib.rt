@@ -1,13 +1,13 @@
 // The walk over the slots: does every extent stand as rules 1, 2 and 4 ask?
 ghost use Prim.Native.Nat.{_<_};
 ghost use Rattle.words.specs.Says.{Says};
-ghost use Rattle.slots.specs.Slot.{Stands, Placed, Home};
+ghost use Rattle.slots.specs.Slot.{SlotStands, HomeGiven, HomeWords};
 ghost use Rattle.slots.specs.Walk.{Given, Walked};
 
 // Rules 1 and 2 for a slot behind one that ended before (lo, q).
 fn row_ok(n: u32, top: u32, lo: u32, q: u32, l: u32, p: u32, c: u32) -> bool
     requires { ⌜ 0 < n ⌝ }
-    ensures { λ r. ⌜ Says r (Stands n top lo q l p c) ⌝ }
+    ensures { λ r. ⌜ Says r (SlotStands n top lo q l p c) ⌝ }
 {
     if l < lo {
         return false;
@@ -39,8 +39,8 @@ fn row_ok(n: u32, top: u32, lo: u32, q: u32, l: u32, p: u32, c: u32) -> bool
 
 // Rule 4 for a slot that stands by rules 1 and 2.
 fn home_ok(blk: &[u32], spare: &[u32], blocks: u32, n: u32, l: u32, p: u32, c: u32) -> bool
-    requires { ⌜ Placed (now blk) (now spare) blocks n l p c ⌝ }
-    ensures { λ r. ⌜ Says r (Home (now (blk .entry)) (now (spare .entry)) blocks n l p c) ⌝ }
+    requires { ⌜ HomeGiven (now blk) (now spare) blocks n l p c ⌝ }
+    ensures { λ r. ⌜ Says r (HomeWords (now (blk .entry)) (now (spare .entry)) blocks n l p c) ⌝ }
 {
     let b = p / n;
     if b >= blocks {

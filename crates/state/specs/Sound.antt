@@ -12,9 +12,9 @@ use Rattle.rules.specs.Lent.{lent}
 use Rattle.rules.specs.Shape.{shape, shaped}
 use Rattle.rules.specs.Sound.{sound}
 use Rattle.rules.specs.declared.Head.{Head}
-use Rattle.laws.specs.Sane.{Shaped, Sane, pagesIn}
+use Rattle.laws.specs.Sound.{Shaped, SoundState, pagesIn}
 use Rattle.laws.specs.Shapes.{shaped-true}
-use Rattle.laws.specs.Sanes.{sound-sane, sane-sound}
+use Rattle.laws.specs.Sounds.{sound-state, state-sound}
 use Rattle.words.specs.Says.{Says, says-for, is-no, is-said}
 use Rattle.words.specs.Scans.{part-mid, same-says}
 use Rattle.slots.specs.Walk.{Given, Rowed}
@@ -64,8 +64,8 @@ module _ (h : Head) (ext blk spare : List ℕ) (z : shape h (length ext) (length
         zeros = λ b t. getD-replicate {A = ℕ} 1024 b 0 0 t;
       }
 
-  unsound : (Sane (lent h ext blk spare) → ⊥) → false ≡ sound (lent h ext blk spare)
-  unsound = is-no (sound (lent h ext blk spare)) (sound-sane (lent h ext blk spare) lent-shaped)
+  unsound : (SoundState (lent h ext blk spare) → ⊥) → false ≡ sound (lent h ext blk spare)
+  unsound = is-no (sound (lent h ext blk spare)) (sound-state (lent h ext blk spare) lent-shaped)
 
   pub head-no : (Headed h ext blk → ⊥) → false ≡ sound (lent h ext blk spare)
   head-no g = unsound (λ s. g (record { few = s .few; kept = s .kept; empty = s .empty; zeros = s .zeros }))
@@ -82,7 +82,7 @@ module _ (h : Head) (ext blk spare : List ℕ) (z : shape h (length ext) (length
       → Says r ((b : ℕ) → b < h .blocks → Block blk spare tally (h .pages) (h .logical) b) → r ≡ sound (lent h ext blk spare)
   blocks-said tally r g w counts said =
       let high : h .blocks ≤ 1024 = lent-shaped .sizes .b-high in
-      is-said r (sound (lent h ext blk spare)) (sound-sane (lent h ext blk spare) lent-shaped) (sane-sound (lent h ext blk spare) lent-shaped)
+      is-said r (sound (lent h ext blk spare)) (sound-state (lent h ext blk spare) lent-shaped) (state-sound (lent h ext blk spare) lent-shaped)
       (says-for said
       (λ f. record {
         few = g .few;

@@ -18,7 +18,7 @@ use Rattle.laws.specs.Bools.{cases}
 use Rattle.laws.specs.Records.{put-block-length, put-block-here, put-block-else}
 use Rattle.laws.specs.Sums.{sum-zero}
 use Rattle.laws.specs.Tallies.{overlap, inRange, overlap-before, overlap-after, total, total-slots}
-use Rattle.map.specs.Sound.{Sound, sound-order}
+use Rattle.map.specs.Sound.{SoundMap, sound-order}
 use Rattle.map.specs.Halved.{endsBy, ends-first}
 
 -- what the words of the blocks become, for N = n, without the pages of extents from l up to e
@@ -30,7 +30,7 @@ pub record Lowered (n l e : ℕ) (es : List Extent) (blk blk′ : List ℕ) : Ty
 -- each block has what is taken from it
 pub record Lowerable (ws : List ℕ) (u n l e : ℕ) (blk : List ℕ) : Type 0 where
   pub within : 3 * u ≤ length ws
-  pub sound : Sound (slotsFrom ws 0 u)
+  pub sound : SoundMap (slotsFrom ws 0 u)
   pub some : 0 < n
   pub inside : (i : ℕ) → i < u → HasBlock blk (slot ws i .physical / n)
   pub enough : (b : ℕ) → total (inRange n b l e) (slotsFrom ws 0 u) ≤ validWord blk b
@@ -97,7 +97,7 @@ module _ (n l e : ℕ) (ws : List ℕ) where
   up-to b i (suc d) = let k : i + suc d ≡ i + d + 1 = omega arith in rw k (omega (arith, up-to b i d, one-more b (i + d)))
 
   -- the slots before the first that ends after l have nothing to lose
-  pub lowered-start : (u k : ℕ) (blk : List ℕ) → Sound (slotsFrom ws 0 u) → k ≡ endsBy l (slotsFrom ws 0 u) → Lowered n l e (slotsFrom ws 0 k) blk blk
+  pub lowered-start : (u k : ℕ) (blk : List ℕ) → SoundMap (slotsFrom ws 0 u) → k ≡ endsBy l (slotsFrom ws 0 u) → Lowered n l e (slotsFrom ws 0 k) blk blk
   lowered-start u k blk s h =
       let f = ends-first ws u l s k h in
       record {
@@ -118,7 +118,7 @@ module _ (n l e : ℕ) (ws : List ℕ) where
   }
 
   -- slot i starts at e or later, and so do d slots behind it
-  none-more : (u i : ℕ) → Sound (slotsFrom ws 0 u) → (i < u → e ≤ slot ws i .logical) → (b d : ℕ) → i + d ≤ u
+  none-more : (u i : ℕ) → SoundMap (slotsFrom ws 0 u) → (i < u → e ≤ slot ws i .logical) → (b d : ℕ) → i + d ≤ u
       → total (inRange n b l e) (slotsFrom ws 0 (i + d)) ≡ total (inRange n b l e) (slotsFrom ws 0 i)
   none-more u i s h b zero t = let k : i + 0 ≡ i = omega arith in rw k
   none-more u i s h b (suc d) t =
@@ -134,7 +134,7 @@ module _ (n l e : ℕ) (ws : List ℕ) where
       later zero q = let z : i + 0 ≡ i = omega arith in rw z (h (omega arith))
       later (suc j) q = omega (arith, h (omega arith), sound-order ws u s i (i + suc j) (omega arith) q)
 
-  pub lowered-end : (u i : ℕ) (blk blk′ : List ℕ) → Sound (slotsFrom ws 0 u) → i ≤ u → (i < u → e ≤ slot ws i .logical) → Lowered n l e (slotsFrom ws 0 i) blk blk′
+  pub lowered-end : (u i : ℕ) (blk blk′ : List ℕ) → SoundMap (slotsFrom ws 0 u) → i ≤ u → (i < u → e ≤ slot ws i .logical) → Lowered n l e (slotsFrom ws 0 i) blk blk′
       → Lowered n l e (slotsFrom ws 0 u) blk blk′
   lowered-end u i blk blk′ s t h g =
       let k : i + (u - i) ≡ u = omega arith in

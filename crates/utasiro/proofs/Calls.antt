@@ -18,7 +18,7 @@ use Rattle.layer.proofs.Calls.{trim-words, trims, trims-to, read-words, reads, 
 use Rattle.records.proofs.Calls.{record-words, reads-records, records-from}
 use Rattle.utasiro.specs.declared.Outcome.{Outcome}
 use Rattle.utasiro.specs.Said.{ofDone, ofListed, ofCounts}
-use Rattle.utasiro.specs.Told.{done-one, listed-one, counts-one}
+use Rattle.utasiro.specs.Told.{of-done-one, of-listed-one, counts-one}
 use Rattle.utasiro.proofs.utasiro_fresh.Kinds as Fresh
 use Rattle.utasiro.proofs.utasiro_fresh.Reads as fresh-contract
 use Rattle.utasiro.proofs.utasiro_write.Kinds as Write
@@ -36,31 +36,31 @@ use Rattle.utasiro.proofs.utasiro_read_records as over-records
 pub fresh-promises : (κs : Lfts 3) (a : Dens κs Fresh.ps) → Promises (fresh-contract.Asked κs a) (fresh-contract.Post κs a) ofDone (fresh-words κs a) (FreshRight κs a)
 fresh-promises κs a =
     by-rule (fresh-contract.Post κs a) ofDone (fresh-words κs a) (FreshRight κs a) (freshly κs a) (fresh-right κs a)
-    (λ r s p. p .0) (λ r r′ s s′ p q e. done-one r r′ e (p .1 ∙ sym (q .1)))
+    (λ r s p. p .0) (λ r r′ s s′ p q e. of-done-one r r′ e (p .1 ∙ sym (q .1)))
 
 pub write-promises : (κs : Lfts 4) (a : Dens κs Write.ps)
     → Promises (write-contract.Asked κs a) (write-contract.Post κs a) ofListed (write-words κs a) (Answers (writes κs a) (writes-to κs a))
 write-promises κs a =
     by-rule (write-contract.Post κs a) ofListed (write-words κs a) _ _ (demand-1 .calls (writes κs a) (writes-to κs a))
-    (λ r s p. p) (λ r r′ s s′ p q. listed-one r r′)
+    (λ r s p. p) (λ r r′ s s′ p q. of-listed-one r r′)
 
 pub trim-promises : (κs : Lfts 3) (a : Dens κs Trim.ps)
     → Promises (trim-contract.Asked κs a) (trim-contract.Post κs a) ofDone (trim-words κs a) (Answers (trims κs a) (trims-to κs a))
 trim-promises κs a =
     by-rule (trim-contract.Post κs a) ofDone (trim-words κs a) _ _ (demand-1 .calls (trims κs a) (trims-to κs a))
-    (λ r s p. p .0) (λ r r′ s s′ p q e. done-one r r′ e (p .1 ∙ sym (q .1)))
+    (λ r s p. p .0) (λ r r′ s s′ p q e. of-done-one r r′ e (p .1 ∙ sym (q .1)))
 
 pub read-promises : (κs : Lfts 4) (a : Dens κs Read.ps)
     → Promises (read-contract.Asked κs a) (read-contract.Post κs a) ofListed (read-words κs a) (Answers (reads κs a) (reads-from κs a))
 read-promises κs a =
     by-rule (read-contract.Post κs a) ofListed (read-words κs a) _ _ (demand-1 .calls (reads κs a) (reads-from κs a))
-    (λ r s p. p) (λ r r′ s s′ p q. listed-one r r′)
+    (λ r s p. p) (λ r r′ s s′ p q. of-listed-one r r′)
 
 pub reclaim-promises : (κs : Lfts 4) (a : Dens κs Reclaim.ps)
     → Promises (reclaim-contract.Asked κs a) (reclaim-contract.Post κs a) ofListed (reclaim-words κs a) (Answers (reclaims κs a) (reclaims-in κs a))
 reclaim-promises κs a =
     by-rule (reclaim-contract.Post κs a) ofListed (reclaim-words κs a) _ _ (demand-1 .calls (reclaims κs a) (reclaims-in κs a))
-    (λ r s p. p) (λ r r′ s s′ p q. listed-one r r′)
+    (λ r s p. p) (λ r r′ s s′ p q. of-listed-one r r′)
 
 pub report-promises : (κs : Lfts 3) (a : Dens κs Report.ps)
     → Promises (report-contract.Asked κs a) (report-contract.Post κs a) ofCounts (report-words κs a) (Answers Call.report (reports-on κs a))
@@ -84,4 +84,4 @@ module _ (κs : Lfts 4) (a : Args over-records.signature κs) where
   pub read-records-promises : Promises (Unit {0}) RecordsPost ofListed (record-words κs a) (Answers (reads-records κs a) (records-from κs a))
   read-records-promises =
       by-rule RecordsPost ofListed (record-words κs a) _ _ (demand-1 .calls (reads-records κs a) (records-from κs a))
-      (λ r s p. p) (λ r r′ s s′ p q. listed-one r r′)
+      (λ r s p. p) (λ r r′ s s′ p q. of-listed-one r r′)

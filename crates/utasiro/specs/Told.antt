@@ -11,12 +11,12 @@ use Rattle.utasiro.specs.Said.{ofDone, ofListed, ofCounts}
 at : ℕ → Said → ℕ
 at i s = getD (s .counts) i 0
 
-pub done-one : (a b : Outcome) → ofDone a ≡ ofDone b → a .count ≡ b .count → a ≡ b
-done-one a b e f = λ i. record { refusal = e i .refusal; count = f i; head = e i .head }
+pub of-done-one : (a b : Outcome) → ofDone a ≡ ofDone b → a .count ≡ b .count → a ≡ b
+of-done-one a b e f = λ i. record { refusal = e i .refusal; count = f i; head = e i .head }
 
-pub listed-one : (a b : Outcome) → ofListed a ≡ ofListed b → a ≡ b
+pub of-listed-one : (a b : Outcome) → ofListed a ≡ ofListed b → a ≡ b
 unfolding at
-listed-one a b e = λ i. record { refusal = e i .refusal; count = ap (at 0) e i; head = e i .head }
+of-listed-one a b e = λ i. record { refusal = e i .refusal; count = ap (at 0) e i; head = e i .head }
 
 pub counts-one : (a b : Counts) → ofCounts a ≡ ofCounts b → a ≡ b
 unfolding at

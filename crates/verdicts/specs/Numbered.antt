@@ -34,14 +34,14 @@ number-first s k v e later = first-refuse v (leb k (s .head .last .number)) Refu
 -- ---- 3, then 4, as a write and a trim are tested
 
 -- v is the first refusal of the two; x is the rules' test of the range
-pub record Asked (s : Lent) (k : ℕ) (x : Bool) (v : Verdict) : Type 0 where
+pub record RangeNumber (s : Lent) (k : ℕ) (x : Bool) (v : Verdict) : Type 0 where
   pub range : Verdict
   pub number : Verdict
   pub range-is : told range ≡ refuse x Refusal.Range 0
   pub number-is : told number ≡ numberRefusal (s .head) k
   pub first : told v ≡ firstOf range (told number)
 
-module _ (s : Lent) (k : ℕ) (x : Bool) (v : Verdict) (a : Asked s k x v) where
+module _ (s : Lent) (k : ℕ) (x : Bool) (v : Verdict) (a : RangeNumber s k x v) where
   asked : (later : ℕ) → firstOf v later ≡ refuse x Refusal.Range (judged k (deviceOf s) later)
   asked later =
       first-both v (a .range) (a .number) (a .first) later

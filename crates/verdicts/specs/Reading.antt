@@ -19,10 +19,10 @@ use Rattle.rules.specs.declared.Refusal.{Refusal}
 use Rattle.rules.specs.declared.Extent.{Extent}
 use Rattle.laws.specs.Bools.{or-split}
 use Rattle.laws.specs.Read.{found-window}
-use Rattle.laws.specs.Sane.{Shaped, Sane}
-use Rattle.laws.specs.States.{device-lines, extents-in-use, sane-good, table-lines}
+use Rattle.laws.specs.Sound.{Shaped, SoundState}
+use Rattle.laws.specs.States.{device-lines, extents-in-use, state-storable, table-lines}
 use Rattle.reading.specs.Walk.{between}
-use Rattle.map.specs.Sound.{Sound}
+use Rattle.map.specs.Sound.{SoundMap}
 use Rattle.verdicts.specs.Refusals.{told, firstOf, roomed, first-then}
 use Rattle.verdicts.specs.declared.Verdict.{Verdict}
 
@@ -40,7 +40,7 @@ short-words room k =
     (λ e. ap not (lt-leb k (room / 3) (omega arith)) ∙ sym (lt-ltb room (3 * k) e))
     (λ e. ap not (le-leb k (room / 3) (omega arith)) ∙ sym (le-ltb room (3 * k) (omega arith)))
 
-module _ (s : Lent) (h : Shaped s) (z : Sane s) where
+module _ (s : Lent) (h : Shaped s) (z : SoundState s) where
   -- what the code's range test says, of the state's device
   outside-words : (l n : ℕ) → outside l n (deviceOf s) ≡ (eqb n 0 || ltb (s .head .logical) (l + n))
   unfolding outside
@@ -52,13 +52,13 @@ module _ (s : Lent) (h : Shaped s) (z : Sane s) where
   pub inside-words : (l n : ℕ) → outside l n (deviceOf s) ≡ false → (0 < n) × (l + n ≤ s .head .logical)
   inside-words l n e = range-fits l n (s .head .logical) (sym (outside-words l n) ∙ e)
 
-  pub rows-sound : Sound (inUse s)
+  pub rows-sound : SoundMap (inUse s)
   rows-sound = record { pages = s .head .pages; logical = s .head .logical; rows = z .rows }
 
   -- what a read in range finds
   pub found-words : (l n : ℕ) → l + n ≤ s .head .logical → found l n (deviceOf s) ≡ between l (l + n) (inUse s)
   found-words l n f =
-      let g = sane-good s h z in
+      let g = state-storable s h z in
       found-window l n (deviceOf s) (g .sound .some) (omega (arith, device-lines s)) (table-lines (deviceOf s) (g .sound))
       ∙ ap (between l (l + n)) (extents-in-use s h z)
 

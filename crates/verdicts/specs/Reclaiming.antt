@@ -18,25 +18,25 @@ use Rattle.rules.specs.Calls.{reclaimRefusal}
 use Rattle.rules.specs.declared.Refusal.{Refusal}
 use Rattle.laws.specs.Sums.{sum-zero, zero-sum}
 use Rattle.laws.specs.Picks.{most-lt, most-top}
-use Rattle.laws.specs.Sane.{Shaped, Sane}
-use Rattle.laws.specs.States.{device-blocks, device-fill, sane-good, valid-in-use}
+use Rattle.laws.specs.Sound.{Shaped, SoundState}
+use Rattle.laws.specs.States.{device-blocks, device-fill, state-storable, valid-in-use}
 use Rattle.laws.specs.Reclaimed.{length-sources}
 use Rattle.laws.specs.Gains.{victim-chosen}
-use Rattle.blocks.specs.Totals.{sane-filled, device-stale}
+use Rattle.blocks.specs.Totals.{state-filled, device-stale}
 use Rattle.choosing.specs.Stale.{staleWord, victim-words}
 use Rattle.verdicts.specs.Refusals.{told, firstOf, roomed, over-not, first-then}
 use Rattle.verdicts.specs.declared.Verdict.{Verdict}
 
-module _ (s : Lent) (h : Shaped s) (z : Sane s) where
+module _ (s : Lent) (h : Shaped s) (z : SoundState s) where
   -- what the search for the victim asks of the block records
-  pub sane-records : (stride * s .head .blocks ≤ length (s .blockWords)) × ((b : ℕ) → b < s .head .blocks → validWord (s .blockWords) b ≤ fillWord (s .blockWords) b)
-  sane-records = (omega (arith, h .blocks), sane-filled s h z .valid)
+  pub state-records : (stride * s .head .blocks ≤ length (s .blockWords)) × ((b : ℕ) → b < s .head .blocks → validWord (s .blockWords) b ≤ fillWord (s .blockWords) b)
+  state-records = (omega (arith, h .blocks), state-filled s h z .valid)
 
   pub found-victim : most (s .head .blocks) (staleWord (s .blockWords)) ≡ victim (deviceOf s)
   found-victim =
       let inside : (b : ℕ) → b < blocks (deviceOf s) → b < s .head .blocks = λ b p. omega (arith, device-blocks s) in
       ap (λ (k : ℕ). most k (staleWord (s .blockWords))) (sym (device-blocks s))
-      ∙ victim-words (deviceOf s) (sane-good s h z .sound) (s .blockWords) (λ b p. sym (device-fill s b (inside b p))) (λ b p. sym (valid-in-use s h z b (inside b p)))
+      ∙ victim-words (deviceOf s) (state-storable s h z .sound) (s .blockWords) (λ b p. sym (device-fill s b (inside b p))) (λ b p. sym (valid-in-use s h z b (inside b p)))
 
   module _ (v : ℕ) (f : v ≡ victim (deviceOf s)) where
     greatest : v ≡ most (s .head .blocks) (staleWord (s .blockWords))
@@ -46,7 +46,7 @@ module _ (s : Lent) (h : Shaped s) (z : Sane s) where
     inside = omega (arith, greatest, most-lt (s .head .blocks) (staleWord (s .blockWords)) (omega (arith, z .kept)))
 
     pub victim-record : (HasBlock (s .blockWords) v) × (validWord (s .blockWords) v ≤ fillWord (s .blockWords) v)
-    victim-record = (omega (arith, inside, h .blocks), sane-filled s h z .valid v inside)
+    victim-record = (omega (arith, inside, h .blocks), state-filled s h z .valid v inside)
 
     -- 8: the victim has no stale page
     is-nothing : (i : ℕ) → i ≡ staleWord (s .blockWords) v → not (ltb 0 i) ≡ eqb (stale (deviceOf s)) 0
@@ -62,9 +62,9 @@ module _ (s : Lent) (h : Shaped s) (z : Sane s) where
     copies : 0 < stale (deviceOf s) → validOf s v ≡ length (sources (victim (deviceOf s)) (deviceOf s))
     copies some =
         let d = deviceOf s in
-        let c = victim-chosen d (sane-good s h z .sound) some in
+        let c = victim-chosen d (state-storable s h z .sound) some in
         ap (validOf s) f
-        ∙ sym (length-sources d (sane-good s h z .sound) (victim d) (c .inside) (c .other) ∙ valid-in-use s h z (victim d) (omega (arith, c .inside, device-blocks s)))
+        ∙ sym (length-sources d (state-storable s h z .sound) (victim d) (c .inside) (c .other) ∙ valid-in-use s h z (victim d) (omega (arith, c .inside, device-blocks s)))
 
     -- by two tests
     pub reclaim-first : (room i j : ℕ) (a b : Verdict) → i ≡ staleWord (s .blockWords) v → j ≡ validWord (s .blockWords) v

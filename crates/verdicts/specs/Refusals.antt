@@ -39,11 +39,11 @@ abbrev pub roomed : ℕ → List ℕ
 roomed k = replicate k 0
 
 -- what a branch on `!f(..)` says of the test that f's contract names
-pub says-no : {r t : Bool} → r ≡ t → not r ≡ true → t ≡ false
-says-no {r} e q = sym e ∙ not-true r q
+pub branch-no : {r t : Bool} → r ≡ t → not r ≡ true → t ≡ false
+branch-no {r} e q = sym e ∙ not-true r q
 
-pub says-yes : {r t : Bool} → r ≡ t → not r ≡ false → t ≡ true
-says-yes {r} e q = sym e ∙ not-false r q
+pub branch-yes : {r t : Bool} → r ≡ t → not r ≡ false → t ≡ true
+branch-yes {r} e q = sym e ∙ not-false r q
 
 pub over-not : (a b : ℕ) → not (leb a b) ≡ ltb b a
 over-not a b =

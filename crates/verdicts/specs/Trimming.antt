@@ -12,18 +12,18 @@ use Rattle.rules.specs.Request.{trimmed, withTable}
 use Rattle.rules.specs.Answers.{number, refuse}
 use Rattle.rules.specs.Calls.{outside, tooMany, trimRefusal}
 use Rattle.rules.specs.declared.Refusal.{Refusal}
-use Rattle.laws.specs.Sane.{Shaped, Sane}
+use Rattle.laws.specs.Sound.{Shaped, SoundState}
 use Rattle.laws.specs.Counts.{startsBefore, endsAfter, tally-le}
 use Rattle.laws.specs.Slots.{slots-length}
 use Rattle.laws.specs.Growth.{trim-grows}
-use Rattle.laws.specs.States.{device-lines, extents-in-use, sane-good}
+use Rattle.laws.specs.States.{device-lines, extents-in-use, state-storable}
 use Rattle.verdicts.specs.Refusals.{told, over-not}
-use Rattle.verdicts.specs.Numbered.{Asked, asked-refuses, asked-passes, asked-inside}
+use Rattle.verdicts.specs.Numbered.{RangeNumber, asked-refuses, asked-passes, asked-inside}
 use Rattle.verdicts.specs.Reading.{inside-words}
 use Rattle.verdicts.specs.declared.Verdict.{Verdict}
 
 -- the extents before a range and those after it are at most twice the slots
-pub few-around : (s : Lent) → Shaped s → Sane s → (l e : ℕ) → startsBefore l (inUse s) + endsAfter e (inUse s) ≤ 16384
+pub few-around : (s : Lent) → Shaped s → SoundState s → (l e : ℕ) → startsBefore l (inUse s) + endsAfter e (inUse s) ≤ 16384
 few-around s h z l e =
     omega (
       arith,
@@ -34,18 +34,18 @@ few-around s h z l e =
       h .sizes .m-high,
     )
 
-module _ (s : Lent) (h : Shaped s) (z : Sane s) (k l n : ℕ) where
+module _ (s : Lent) (h : Shaped s) (z : SoundState s) (k l n : ℕ) where
   -- the extents afterwards
   pub trim-nodes : 0 < n → l + n ≤ s .head .logical → length (extents (trimmed k l n (deviceOf s))) ≡ startsBefore l (inUse s) + endsAfter (l + n) (inUse s)
   trim-nodes some inside =
-      trim-grows k l n (deviceOf s) (sane-good s h z .sound) some (omega (arith, device-lines s))
+      trim-grows k l n (deviceOf s) (state-storable s h z .sound) some (omega (arith, device-lines s))
       ∙ ap (λ es. startsBefore l es + endsAfter (l + n) es) (extents-in-use s h z)
 
   many : trimmed k l n (deviceOf s) .slots ≡ s .head .slots
   unfolding trimmed withTable deviceOf
   many = refl
 
-  module _ (v : Verdict) (a : Asked s k (outside l n (deviceOf s)) v) where
+  module _ (v : Verdict) (a : RangeNumber s k (outside l n (deviceOf s)) v) where
     pub trim-asked : (r : Refusal) → v ≡ Verdict.Refused r → number r ≡ trimRefusal k l n (deviceOf s)
     unfolding trimRefusal
     trim-asked r g = asked-refuses s k (outside l n (deviceOf s)) v a r _ g

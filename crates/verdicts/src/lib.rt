@@ -11,7 +11,7 @@ ghost use Rattle.rules.specs.Lent.{lent, inUse};
 ghost use Rattle.rules.specs.Device.{deviceOf};
 ghost use Rattle.rules.specs.Answers.{refuse};
 ghost use Rattle.rules.specs.Calls.{readRefusal, trimRefusal, reclaimRefusal};
-ghost use Rattle.laws.specs.Sane.{Shaped, Sane};
+ghost use Rattle.laws.specs.Sound.{Shaped, SoundState};
 ghost use Rattle.map.specs.Halved.{endsBy};
 ghost use Rattle.map.specs.Around.{Beside};
 ghost use Rattle.verdicts.specs.Refusals.{told, firstOf, lentRefusal, roomed};
@@ -75,7 +75,7 @@ pub fn read_verdict(
     n: u32,
     room: usize,
 ) -> Verdict
-    requires { ⌜ Shaped (lent h (now ext) (now blk) (now spare)) × Sane (lent h (now ext) (now blk) (now spare)) × (first ≡ endsBy l (inUse (lent h (now ext) (now blk) (now spare)))) ⌝ }
+    requires { ⌜ Shaped (lent h (now ext) (now blk) (now spare)) × SoundState (lent h (now ext) (now blk) (now spare)) × (first ≡ endsBy l (inUse (lent h (now ext) (now blk) (now spare)))) ⌝ }
     ensures { λ v. ⌜ told v ≡ readRefusal l n (roomed room) (deviceOf (lent h (now (ext .entry)) (now (blk .entry)) (now (spare .entry)))) ⌝ }
 {
     let inside = in_range(h.logical, l, n);
@@ -106,7 +106,7 @@ pub fn trim_verdict(
     l: u32,
     n: u32,
 ) -> Verdict
-    requires { ⌜ Shaped (lent h (now ext) (now blk) (now spare)) × Sane (lent h (now ext) (now blk) (now spare)) × Beside l (l + n) (inUse (lent h (now ext) (now blk) (now spare))) sides ⌝ }
+    requires { ⌜ Shaped (lent h (now ext) (now blk) (now spare)) × SoundState (lent h (now ext) (now blk) (now spare)) × Beside l (l + n) (inUse (lent h (now ext) (now blk) (now spare))) sides ⌝ }
     ensures { λ v. ⌜ told v ≡ trimRefusal number l n (deviceOf (lent h (now (ext .entry)) (now (blk .entry)) (now (spare .entry)))) ⌝ }
 {
     let range = unless(in_range(h.logical, l, n), Refusal::Range);
@@ -128,7 +128,7 @@ pub fn reclaim_verdict(
     v: u32,
     room: usize,
 ) -> Verdict
-    requires { ⌜ Shaped (lent h (now ext) (now blk) (now spare)) × Sane (lent h (now ext) (now blk) (now spare)) ⌝ }
+    requires { ⌜ Shaped (lent h (now ext) (now blk) (now spare)) × SoundState (lent h (now ext) (now blk) (now spare)) ⌝ }
     requires { ⌜ v ≡ victim (deviceOf (lent h (now ext) (now blk) (now spare))) ⌝ }
     ensures { λ w. ⌜ told w ≡ reclaimRefusal (roomed room) (deviceOf (lent h (now (ext .entry)) (now (blk .entry)) (now (spare .entry)))) ⌝ }
 {

@@ -41,10 +41,10 @@ all-stored f (x ∷ xs) = ap (λ (r : List ℕ). f 0 ∷ r) (all-stored (λ i. f
 pub stored-end : (f : ℕ → ℕ) (k : ℕ) (xs ys : List ℕ) → k ≡ length xs → ys ≡ stored f k xs → ys ≡ tabulate (length xs) f
 stored-end f k xs ys h e = e ∙ ap (λ (j : ℕ). stored f j xs) h ∙ all-stored f xs
 
-pub tabulate-same : (n x : ℕ) → tabulate n (λ k. x) ≡ replicate n x
+pub tabulate-const : (n x : ℕ) → tabulate n (λ k. x) ≡ replicate n x
 unfolding tabulate
-tabulate-same zero x = refl
-tabulate-same (suc n) x = ap (λ (r : List ℕ). x ∷ r) (tabulate-same n x)
+tabulate-const zero x = refl
+tabulate-const (suc n) x = ap (λ (r : List ℕ). x ∷ r) (tabulate-const n x)
 
 -- ---- words moved down
 

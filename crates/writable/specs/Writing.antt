@@ -13,10 +13,10 @@ use Rattle.rules.specs.Answers.{number, refuse}
 use Rattle.rules.specs.Calls.{outside, tooMany, writeRefusal}
 use Rattle.rules.specs.declared.Refusal.{Refusal}
 use Rattle.laws.specs.Bools.{or-split}
-use Rattle.laws.specs.Sane.{Shaped, Sane}
+use Rattle.laws.specs.Sound.{Shaped, SoundState}
 use Rattle.laws.specs.Placed.{puts-slots}
 use Rattle.verdicts.specs.Refusals.{told, firstOf, roomed, over-not, refuse-here, refuse-later, first-then}
-use Rattle.verdicts.specs.Numbered.{Asked, asked-refuses, asked-passes, asked-inside}
+use Rattle.verdicts.specs.Numbered.{RangeNumber, asked-refuses, asked-passes, asked-inside}
 use Rattle.verdicts.specs.Reading.{is-outside, inside-words, short-words}
 use Rattle.writable.specs.Meeting.{Writable, piecesOf, nodesOf}
 use Rattle.verdicts.specs.declared.Verdict.{Verdict}
@@ -25,7 +25,7 @@ not-both : (a b : Bool) → not (a && b) ≡ (not a || not b)
 not-both true b = refl
 not-both false b = refl
 
-module _ (s : Lent) (h : Shaped s) (z : Sane s) (l n : ℕ) where
+module _ (s : Lent) (h : Shaped s) (z : SoundState s) (l n : ℕ) where
   -- 3
   abbrev pub outOrLong : Bool
   outOrLong = outside l n (deviceOf s) || ltb (deviceOf s .pages) n
@@ -39,7 +39,7 @@ module _ (s : Lent) (h : Shaped s) (z : Sane s) (l n : ℕ) where
       ap not i ∙ not-both t (leb n (s .head .pages))
       ∙ ap₂ _||_ (is-outside s h z l n t e) (over-not n (s .head .pages) ∙ ap (λ (m : ℕ). ltb m n) (sym pages-same))
 
-module _ (s : Lent) (h : Shaped s) (z : Sane s) (k l n room : ℕ) (v : Verdict) (a : Asked s k (outOrLong s h z l n) v) where
+module _ (s : Lent) (h : Shaped s) (z : SoundState s) (k l n room : ℕ) (v : Verdict) (a : RangeNumber s k (outOrLong s h z l n) v) where
   pub write-asked : (r : Refusal) → v ≡ Verdict.Refused r → number r ≡ writeRefusal k l n (roomed room) (deviceOf s)
   unfolding writeRefusal
   write-asked r g = asked-refuses s k (outOrLong s h z l n) v a r _ g
@@ -66,7 +66,7 @@ module _ (s : Lent) (h : Shaped s) (z : Sane s) (k l n room : ℕ) (v : Verdict)
           let r = inside-words s h z l n (o .0) in
           record {
             shape = h;
-            sane = z;
+            sound = z;
             some = r .0;
             block = omega (arith, ltb-false (deviceOf s .pages) n (o .1), pages-same s h z l n);
             inside = r .1;

@@ -9,7 +9,7 @@ ghost use Rattle.rules.specs.Counting.{one};
 ghost use Rattle.rules.specs.Lent.{lent};
 ghost use Rattle.rules.specs.Device.{deviceOf};
 ghost use Rattle.rules.specs.Calls.{writeRefusal};
-ghost use Rattle.laws.specs.Sane.{Shaped, Sane};
+ghost use Rattle.laws.specs.Sound.{Shaped, SoundState};
 ghost use Rattle.verdicts.specs.Refusals.{told, roomed};
 ghost use Rattle.writable.specs.Meeting.{Meets};
 
@@ -23,7 +23,7 @@ pub struct Meeting {
 
 // Found in any sound state. Whether they are joinable is told where the write is in range and finds its pages.
 pub fn meeting_of(h: Head, ext: &[u32], blk: &[u32], spare: &[u32], l: u32, n: u32) -> Meeting
-    requires { ⌜ Shaped (lent h (now ext) (now blk) (now spare)) × Sane (lent h (now ext) (now blk) (now spare)) ⌝ }
+    requires { ⌜ Shaped (lent h (now ext) (now blk) (now spare)) × SoundState (lent h (now ext) (now blk) (now spare)) ⌝ }
     ensures { λ m. ⌜ Meets l n (lent h (now (ext .entry)) (now (blk .entry)) (now (spare .entry))) m ⌝ }
 {
     let sides = map::around(ext, h.used as usize, l, n);
@@ -60,7 +60,7 @@ pub fn write_verdict(
     n: u32,
     room: usize,
 ) -> Verdict
-    requires { ⌜ Shaped (lent h (now ext) (now blk) (now spare)) × Sane (lent h (now ext) (now blk) (now spare)) × Meets l n (lent h (now ext) (now blk) (now spare)) m ⌝ }
+    requires { ⌜ Shaped (lent h (now ext) (now blk) (now spare)) × SoundState (lent h (now ext) (now blk) (now spare)) × Meets l n (lent h (now ext) (now blk) (now spare)) m ⌝ }
     ensures { λ v. ⌜ told v ≡ writeRefusal number l n (roomed room) (deviceOf (lent h (now (ext .entry)) (now (blk .entry)) (now (spare .entry)))) ⌝ }
 {
     let inside = verdicts::in_range(h.logical, l, n) && n <= h.pages;

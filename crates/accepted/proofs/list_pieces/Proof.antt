@@ -23,7 +23,7 @@ list-found-requires c κs =
     let s = start (c .before) in
     let a = s .args in
     let z = s .pre .0 in (
-      (read-slots (a .l) (a .n) (a .out .now) (state s) z, omega arith, rows-sound (state s) (z .shape) (z .sane), s .pre .1),
+      (read-slots (a .l) (a .n) (a .out .now) (state s) z, omega arith, rows-sound (state s) (z .shape) (z .sound), s .pre .1),
       read-fits (a .l) (a .n) (a .out .now) (state s) z,
     )
 

@@ -3,7 +3,7 @@ use mathlib.Core.Path.{_≡_, refl}
 use mathlib.Core.Logic.{⊎-elim}
 use lib.ListN.{length, getD, length-set}
 use Rattle.rules.specs.Calls.{over}
-use Rattle.choosing.specs.Ranks.{rises, rise-true, rise-false, rank-lt}
+use Rattle.choosing.specs.Ranks.{rises, rise-true, rise-false, rank-below}
 use Rattle.choosing.specs.Sources.{pagesBelow, listed-start, listed-live, listed-other, listed-end}
 use borrow.Author.Needs.{needs}
 use native.Mathlib.Omega.{arith}
@@ -28,7 +28,7 @@ room c h =
     let a = s .args in
     omega (
       arith,
-      rank-lt (a .n) (rises (a .ranks .now)) (a .ranks .now) (s .pre .0) (o .o) (omega arith) (rise-true (a .ranks .now) (o .o) h),
+      rank-below (a .n) (rises (a .ranks .now)) (a .ranks .now) (s .pre .0) (o .o) (omega arith) (rise-true (a .ranks .now) (o .o) h),
       s .pre .1,
     )
 

@@ -1,5 +1,5 @@
 use native.Mathlib.Omega.{arith}
-use Rattle.map.specs.Clip.{left-none, left-same, left-set}
+use Rattle.map.specs.Clip.{clip-left-none, left-same, left-set}
 use borrow.Author.Needs.{needs}
 use Rattle.cutting.proofs.clip_left.Statement.{statement}
 use Rattle.cutting.proofs.clip_left.Tie as tie
@@ -11,7 +11,7 @@ returns : tie.Need-returns
 returns c =
     let s = c .before .before in
     let a = s .args in
-    left-none (a .ext .now) (a .used) (s .pre .0) _ _ (omega arith)
+    clip-left-none (a .ext .now) (a .used) (s .pre .0) _ _ (omega arith)
 
 returns-2 : tie.Need-returns-2
 returns-2 c =

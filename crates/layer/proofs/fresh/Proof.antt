@@ -5,7 +5,7 @@ use Rattle.rules.specs.Shape.{shape}
 use Rattle.rules.specs.Answers.{said, outcome}
 use Rattle.rules.specs.Calls.{sizesOnly}
 use Rattle.rules.specs.declared.Head.{Head}
-use Rattle.verdicts.specs.Refusals.{says-no, says-yes}
+use Rattle.verdicts.specs.Refusals.{branch-no, branch-yes}
 use Rattle.accepted.specs.Fresh.{fresh-refused}
 use borrow.Author.Needs.{needs}
 use Rattle.layer.proofs.fresh.Statement.{statement}
@@ -29,10 +29,10 @@ returns c =
     let s = c .before .before .before .before .before .before in
     let a = s .args in
     ap (λ (h : Head). outcome (said 1 [] h) (a .ext .now) (a .blk .now) (a .spare .now) []) (c .before .before .sizes-only .ensures)
-    ∙ fresh-refused (a .blocks) (a .pages) (a .logical) (a .slots) (a .ext .now) (a .blk .now) (a .spare .now) (says-no (tested (c .before)) (c .if1 .taken))
+    ∙ fresh-refused (a .blocks) (a .pages) (a .logical) (a .slots) (a .ext .now) (a .blk .now) (a .spare .now) (branch-no (tested (c .before)) (c .if1 .taken))
 
 make-fresh-requires : tie.Need-make-fresh-requires
-make-fresh-requires c κs = says-yes (tested (c .before .before .before .before)) (c .before .before .before .if1 .left)
+make-fresh-requires c κs = branch-yes (tested (c .before .before .before .before)) (c .before .before .before .if1 .left)
 
 same-length : tie.Need-same-length
 same-length c = search needs

@@ -4,7 +4,7 @@ use native.Mathlib.Omega.{arith}
 use Rattle.rules.specs.Lent.{Lent, lent}
 use Rattle.rules.specs.Device.{deviceOf}
 use Rattle.rules.specs.Calls.{Call, refused}
-use Rattle.laws.specs.Sane.{Shaped, Sane}
+use Rattle.laws.specs.Sound.{Shaped, SoundState}
 use Rattle.verdicts.specs.Refusals.{lent-refuses}
 use Rattle.verdicts.specs.Reading.{rows-sound}
 use Rattle.accepted.specs.Accepts.{Ready, read-room, ready-state, ready, refuses}
@@ -24,7 +24,7 @@ state s = lent (s .args .h) (s .args .ext .now) (s .args .blk .now) (s .args .sp
 abbrev start : tie.After-enum-told → tie.Start
 start t = t .before .before .before .before .before .before .before
 
-held : (t : tie.After-enum-told) → Shaped (state (start t)) × Sane (state (start t))
+held : (t : tie.After-enum-told) → Shaped (state (start t)) × SoundState (state (start t))
 held t = ready-state (asks (start t)) (state (start t)) _ (t .before .before .lent-verdict .ensures) (t .enum-told .given .1)
 
 -- and the second

@@ -4,9 +4,9 @@ use Rattle.rules.specs.Lent.{Lent, lent}
 use Rattle.rules.specs.Device.{deviceOf}
 use Rattle.rules.specs.Reclaim.{victim}
 use Rattle.rules.specs.Calls.{Call, refused}
-use Rattle.laws.specs.Sane.{Shaped, Sane}
+use Rattle.laws.specs.Sound.{Shaped, SoundState}
 use Rattle.verdicts.specs.Refusals.{lent-refuses}
-use Rattle.verdicts.specs.Reclaiming.{sane-records, found-victim}
+use Rattle.verdicts.specs.Reclaiming.{state-records, found-victim}
 use Rattle.accepted.specs.Accepts.{reclaim-room, ready-state, ready, refuses}
 use Rattle.layer.proofs.reclaim.Statement.{statement}
 use Rattle.layer.proofs.reclaim.Tie as tie
@@ -21,7 +21,7 @@ state s = lent (s .args .h) (s .args .ext .now) (s .args .blk .now) (s .args .sp
 abbrev start : tie.After-enum-told → tie.Start
 start t = t .before .before .before .before .before .before .before .before .before .before
 
-held : (t : tie.After-enum-told) → Shaped (state (start t)) × Sane (state (start t))
+held : (t : tie.After-enum-told) → Shaped (state (start t)) × SoundState (state (start t))
 held t = ready-state (asks (start t)) (state (start t)) _ (t .before .before .lent-verdict .ensures) (t .enum-told .given .1)
 
 -- where the victim is found
@@ -53,7 +53,7 @@ enum-told : tie.Need-enum-told
 enum-told c = search needs
 
 victim-of-requires : tie.Need-victim-of-requires
-victim-of-requires c κs = let t = c .before in sane-records (state (start t)) (held t .0) (held t .1)
+victim-of-requires c κs = let t = c .before in state-records (state (start t)) (held t .0) (held t .1)
 
 reclaim-verdict-requires : tie.Need-reclaim-verdict-requires
 reclaim-verdict-requires c κs =

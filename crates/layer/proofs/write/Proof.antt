@@ -2,7 +2,7 @@ use borrow.Author.Needs.{needs}
 use Rattle.rules.specs.Lent.{Lent, lent}
 use Rattle.rules.specs.Device.{deviceOf}
 use Rattle.rules.specs.Calls.{Call, refused}
-use Rattle.laws.specs.Sane.{Shaped, Sane}
+use Rattle.laws.specs.Sound.{Shaped, SoundState}
 use Rattle.verdicts.specs.Refusals.{lent-refuses}
 use Rattle.accepted.specs.Accepts.{write-room, ready-state, ready, refuses}
 use Rattle.layer.proofs.write.Statement.{statement}
@@ -18,7 +18,7 @@ state s = lent (s .args .h) (s .args .ext .now) (s .args .blk .now) (s .args .sp
 abbrev start : tie.After-enum-told → tie.Start
 start t = t .before .before .before .before .before .before .before .before .before .before
 
-held : (t : tie.After-enum-told) → Shaped (state (start t)) × Sane (state (start t))
+held : (t : tie.After-enum-told) → Shaped (state (start t)) × SoundState (state (start t))
 held t = ready-state (asks (start t)) (state (start t)) _ (t .before .before .lent-verdict .ensures) (t .enum-told .given .1)
 
 lent-verdict-requires : tie.Need-lent-verdict-requires

@@ -1,6 +1,6 @@
 -- Each way out is one of the three things that `joinable` asks.
 use Prim.Native.Nat.{_+_, _-_, _*_}
-use Rattle.map.specs.Around.{none-before, not-next, not-behind, by-block}
+use Rattle.map.specs.Around.{none-before, not-next-logical, not-behind, by-block}
 use native.Mathlib.Omega.{arith}
 use borrow.Author.Needs.{needs}
 use Rattle.map.proofs.joins_left.Statement.{statement}
@@ -10,7 +10,7 @@ returns : tie.Need-returns
 returns c = none-before _ _ _ _ _ (omega arith)
 
 returns-2 : tie.Need-returns-2
-returns-2 c = not-next _ _ _ _ _ (omega arith) (λ e. c .if2 .taken (omega arith))
+returns-2 c = not-next-logical _ _ _ _ _ (omega arith) (λ e. c .if2 .taken (omega arith))
 
 abbrev start : tie.Else2 → tie.Start
 start w = w .before .before .before .before

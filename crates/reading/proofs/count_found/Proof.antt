@@ -3,7 +3,7 @@ use Prim.Native.Nat.{_+_, _-_, _*_, _≤_}
 use mathlib.Core.Path.{_≡_}
 use lib.ListN.{length}
 use Rattle.rules.specs.Extents.{slotsFrom, slot}
-use Rattle.map.specs.Halved.{first-le}
+use Rattle.map.specs.Halved.{first-below}
 use Rattle.reading.specs.Walk.{between, reaches, tells-le, count-start, count-more, count-end, hole-le, walk-end, walk-over}
 use borrow.Author.Needs.{needs}
 use native.Mathlib.Omega.{arith}
@@ -24,7 +24,7 @@ loop-holds : tie.Need-loop-holds Inv-loop μ-loop
 loop-holds c =
     let s = c .before in
     let a = s .args in (
-      first-le (a .ext .now) (a .used) (a .l) (s .pre .2) (a .first) (s .pre .3),
+      first-below (a .ext .now) (a .used) (a .l) (s .pre .2) (a .first) (s .pre .3),
       search needs,
       search needs,
       count-start (a .l) (a .e) (a .first) (a .ext .now) (a .used) (s .pre .2) (s .pre .3),

@@ -3,7 +3,7 @@ use Prim.Native.Nat.{_-_, _≤_}
 use mathlib.Core.Path.{_≡_, refl}
 use lib.ListN.{length}
 use Rattle.map.specs.Sound.{sound-piece}
-use Rattle.map.specs.Halved.{first-le}
+use Rattle.map.specs.Halved.{first-below}
 use Rattle.reading.specs.Walk.{walk-end, walk-over}
 use Rattle.reading.specs.Told.{Telling, telling-start, telling-room, telling-end, telling-fits, telling-more}
 use borrow.Author.Needs.{needs}
@@ -25,7 +25,7 @@ loop-holds c =
     let s = c .before .before in
     let a = s .args in
     let p = s .pre .0 in (
-      first-le (a .ext .now) (a .used) (a .l) (p .2) (a .first) (p .3),
+      first-below (a .ext .now) (a .used) (a .l) (p .2) (a .first) (p .3),
       search needs,
       refl,
       telling-start (a .l) (a .e) (a .first) (a .ext .now) (a .used) (a .out .now) (p .2) (p .3),

@@ -2,7 +2,7 @@ use Prim.Native.Nat.{_-_, _≤_, _<_}
 use mathlib.Core.Path.{_≡_, refl}
 use lib.ListN.{length, take, getD, length-set}
 use Rattle.rules.specs.Extents.{none}
-use Rattle.laws.specs.Cells.{copies}
+use Rattle.laws.specs.Cells.{copiesInto}
 use Rattle.reclaiming.specs.Labels.{labels-start, labels-next}
 use borrow.Author.Needs.{needs}
 use native.Mathlib.Omega.{arith}
@@ -10,7 +10,7 @@ use Rattle.reclaiming.proofs.copy_labels.Statement.{statement}
 use Rattle.reclaiming.proofs.copy_labels.Tie as tie
 
 abbrev Inv-loop : tie.InvT-loop
-Inv-loop spare₀ out k to i₀ spare i = (i ≤ k) × (length spare ≡ length spare₀) × (spare ≡ copies none to (take i out) spare₀)
+Inv-loop spare₀ out k to i₀ spare i = (i ≤ k) × (length spare ≡ length spare₀) × (spare ≡ copiesInto none to (take i out) spare₀)
 
 abbrev μ-loop : tie.MeasureT-loop
 μ-loop spare₀ out k to i₀ spare i = k - i

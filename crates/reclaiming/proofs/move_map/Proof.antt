@@ -7,7 +7,7 @@ use Rattle.rules.specs.declared.Extent.{Extent}
 use Rattle.laws.specs.Norm.{norm, move}
 use Rattle.choosing.specs.Covered.{covered}
 use Rattle.choosing.specs.Ranks.{ranks-movable}
-use Rattle.reclaiming.specs.Remapped.{place}
+use Rattle.reclaiming.specs.Remapped.{rankedPage}
 use Rattle.map.specs.Padded.{padded}
 use Rattle.reclaiming.specs.Slot.{Packed, packed-start, packed-ends, packed-step, packed-length, packed-end, moved-map}
 use borrow.Author.Needs.{needs}
@@ -16,14 +16,14 @@ use Rattle.reclaiming.proofs.move_map.Statement.{statement}
 use Rattle.reclaiming.proofs.move_map.Tie as tie
 
 abbrev Inv-loop : tie.InvT-loop
-Inv-loop ext₀ used n v r ranks w₀ i₀ ext w i = (i ≤ used) × (length ext ≡ length ext₀) × Packed (place n ranks v r) n ext₀ i ext w
+Inv-loop ext₀ used n v r ranks w₀ i₀ ext w i = (i ≤ used) × (length ext ≡ length ext₀) × Packed (rankedPage n ranks v r) n ext₀ i ext w
 
 abbrev μ-loop : tie.MeasureT-loop
 μ-loop ext₀ used n v r ranks w₀ i₀ ext w i = used - i
 
 -- where a page goes
 abbrev to : tie.Start Inv-loop μ-loop → ℕ → ℕ
-to s = place (s .args .n) (s .args .ranks .now) (s .args .v) (s .args .r)
+to s = rankedPage (s .args .n) (s .args .ranks .now) (s .args .v) (s .args .r)
 
 abbrev start : tie.At-loop Inv-loop μ-loop → tie.Start Inv-loop μ-loop
 start w = w .before .before .before

@@ -1,4 +1,4 @@
-use Rattle.reclaiming.specs.Remapped.{place}
+use Rattle.reclaiming.specs.Remapped.{rankedPage}
 use Rattle.reclaiming.specs.Slot.{slot-moved}
 use borrow.Author.Needs.{needs}
 use Rattle.reclaiming.proofs.slot_after.Statement.{statement}
@@ -7,7 +7,7 @@ use Rattle.reclaiming.proofs.slot_after.Tie as tie
 returns : tie.Need-returns
 returns c =
     let a = c .before .before .before .before .before .before .args in
-    slot-moved (place (a .n) (a .ranks .now) (a .v) (a .r)) (a .ext .now) (a .i) _ (c .before .before .page-after .ensures)
+    slot-moved (rankedPage (a .n) (a .ranks .now) (a .v) (a .r)) (a .ext .now) (a .i) _ (c .before .before .page-after .ensures)
 
 pub slot-after-spec : {M : Type 1} → statement M
 slot-after-spec =

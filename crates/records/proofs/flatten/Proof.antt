@@ -54,7 +54,8 @@ use denote.Triple.Table.{entered, cited}
 use denote.Triple.Walked.{says, Stays, stay-none-slice, stay-slice, walkOf, goes-none-slice, goes-slice, Walks, ends-at, walked, walk-meets}
 use denote.Exit.{yes}
 use Rattle.records.specs.Laid.{put, laidAt, laid}
-use Rattle.records.specs.LaidLaws.{blank, laid-step, laid-end}
+use Rattle.laws.specs.Slots.{blank}
+use Rattle.records.specs.LaidLaws.{laid-step, laid-end}
 use Rattle.rules.specs.declared.Extent.{Extent}
 use Rattle.rules.proofs.Extent as T
 use Rattle.rules.proofs.Extent.Laws as T′

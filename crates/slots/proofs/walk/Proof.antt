@@ -4,7 +4,7 @@ use native.Mathlib.Omega.{arith}
 use borrow.Author.Needs.{needs}
 use Rattle.rules.specs.Extents.{slot}
 use Rattle.words.specs.Says.{told-yes, told-no}
-use Rattle.slots.specs.Slot.{Stands, Home}
+use Rattle.slots.specs.Slot.{SlotStands, HomeWords}
 use Rattle.slots.specs.Walk.{Left, left-start, left-bad, left-step, left-end, walk-no}
 use Rattle.slots.proofs.walk.Statement.{statement}
 use Rattle.slots.proofs.walk.Tie as tie
@@ -23,11 +23,11 @@ abbrev here : tie.Else1 Inv-loop μ-loop → tie.At-loop Inv-loop μ-loop
 here t = t .before .before .before .before .before .before
 
 row : (t : tie.Else1 Inv-loop μ-loop) → let w = here t in let a = start w .args in let x = slot (a .ext .now) (w .loop .i) in
-    Stands (a .n) (a .top) (w .loop .lo) (w .loop .q) (x .logical) (x .physical) (x .count)
+    SlotStands (a .n) (a .top) (w .loop .lo) (w .loop .q) (x .logical) (x .physical) (x .count)
 row t = told-yes (t .before .row-ok .result) (t .before .row-ok .ensures) (t .if1 .left)
 
 home : (t : tie.Else2 Inv-loop μ-loop) → let w = here (t .before .before) in let a = start w .args in let x = slot (a .ext .now) (w .loop .i) in
-    Home (a .blk .now) (a .spare .now) (a .blocks) (a .n) (x .logical) (x .physical) (x .count)
+    HomeWords (a .blk .now) (a .spare .now) (a .blocks) (a .n) (x .logical) (x .physical) (x .count)
 home t = told-yes (t .before .home-ok .result) (t .before .home-ok .ensures) (t .if2 .left)
 
 loop-holds : tie.Need-loop-holds Inv-loop μ-loop

@@ -1,7 +1,7 @@
 -- The walk: the slots passed have taken what they had.
 use Prim.Native.Nat.{_-_, _≤_}
 use Rattle.rules.specs.Extents.{slotsFrom}
-use Rattle.map.specs.Halved.{first-le}
+use Rattle.map.specs.Halved.{first-below}
 use Rattle.striking.specs.Lowered.{Lowered, lowered-start, lowered-more, lowered-end, lowered-enough}
 use borrow.Author.Needs.{needs}
 use native.Mathlib.Omega.{arith}
@@ -21,7 +21,7 @@ loop-holds : tie.Need-loop-holds Inv-loop μ-loop
 loop-holds c =
     let s = c .before .before in
     let a = s .args in (
-      first-le (a .ext .now) (a .used) (a .l) (s .pre .0 .sound) (a .first) (s .pre .1),
+      first-below (a .ext .now) (a .used) (a .l) (s .pre .0 .sound) (a .first) (s .pre .1),
       lowered-start (a .pages) (a .l) (a .e) (a .ext .now) (a .used) (a .first) (a .blk .now) (s .pre .0 .sound) (s .pre .1),
     )
 

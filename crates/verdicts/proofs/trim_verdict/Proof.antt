@@ -8,7 +8,7 @@ use Rattle.rules.specs.Device.{deviceOf}
 use Rattle.rules.specs.Answers.{refuse}
 use Rattle.rules.specs.Calls.{outside}
 use Rattle.rules.specs.declared.Refusal.{Refusal}
-use Rattle.verdicts.specs.Numbered.{Asked}
+use Rattle.verdicts.specs.Numbered.{RangeNumber}
 use Rattle.verdicts.specs.Reading.{is-outside}
 use Rattle.verdicts.specs.Trimming.{trim-asked, trim-last, few-around}
 use Rattle.verdicts.proofs.trim_verdict.Statement.{statement}
@@ -22,7 +22,7 @@ start c = c .before .before .before .before .before .before .before
 
 -- Range, then the number
 asked : (c : tie.After-first-of) → let s = start c in
-    Asked (state s) (s .args .number) (outside (s .args .l) (s .args .n) (deviceOf (state s))) (c .first-of .result)
+    RangeNumber (state s) (s .args .number) (outside (s .args .l) (s .args .n) (deviceOf (state s))) (c .first-of .result)
 asked c =
     let s = start c in
     let range = c .before .before in

@@ -3,7 +3,7 @@ use mathlib.Core.Path.{_≡_, refl, _∙_}
 use native.Mathlib.Omega.{arith}
 use borrow.Author.Needs.{needs}
 use lib.ListN.{length, length-set}
-use Rattle.words.specs.Store.{stored, stored-start, stored-next, stored-end, tabulate-same}
+use Rattle.words.specs.Store.{stored, stored-start, stored-next, stored-end, tabulate-const}
 use Rattle.words.proofs.fill_with.Statement.{statement}
 use Rattle.words.proofs.fill_with.Tie as tie
 
@@ -20,7 +20,7 @@ loop-again : tie.Need-loop-again Inv-loop μ-loop
 loop-again c = (search needs, simp length-set (search needs), stored-next _ _ _ _ (search needs) (c .before .loop .inv .2))
 
 returns : tie.Need-returns Inv-loop μ-loop
-returns c = stored-end _ _ _ _ (omega arith) (c .before .loop .inv .2) ∙ tabulate-same _ _
+returns c = stored-end _ _ _ _ (omega arith) (c .before .loop .inv .2) ∙ tabulate-const _ _
 
 pub fill-with-spec : {M : Type 1} → statement M
 fill-with-spec =

@@ -2,7 +2,7 @@ use borrow.Author.Needs.{needs}
 use native.Mathlib.Omega.{arith}
 use Rattle.rules.specs.Lent.{Lent, lent}
 use Rattle.map.specs.Around.{starts-le}
-use Rattle.writable.specs.Meeting.{first-is, joined-is}
+use Rattle.writable.specs.Meeting.{first-page-is, joined-is}
 use Rattle.writable.proofs.meeting_of.Statement.{statement}
 use Rattle.writable.proofs.meeting_of.Tie as tie
 
@@ -31,7 +31,7 @@ returns c =
     let n = s .args .n in record {
       sides = c .before .before .around .ensures;
       from = c .before .start-of .ensures .block;
-      joined = λ w. joined-is l n (state s) w _ _ _ (first-is l n (state s) w (c .before .start-of .result) (c .before .start-of .ensures))
+      joined = λ w. joined-is l n (state s) w _ _ _ (first-page-is l n (state s) w (c .before .start-of .result) (c .before .start-of .ensures))
           (c .before .before .around .ensures .before) (c .joins-left .ensures);
     }
 

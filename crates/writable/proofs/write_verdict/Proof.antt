@@ -10,8 +10,8 @@ use Rattle.rules.specs.Lent.{Lent, lent}
 use Rattle.rules.specs.Device.{free, deviceOf}
 use Rattle.rules.specs.Answers.{refuse}
 use Rattle.rules.specs.declared.Refusal.{Refusal}
-use Rattle.blocks.specs.Totals.{sane-filled, device-free}
-use Rattle.verdicts.specs.Numbered.{Asked}
+use Rattle.blocks.specs.Totals.{state-filled, device-free}
+use Rattle.verdicts.specs.Numbered.{RangeNumber}
 use Rattle.writable.specs.Meeting.{pieces-are, grows, few-meet, nodes-are}
 use Rattle.writable.specs.Writing.{outOrLong, is-out-or-long, write-asked, write-pages, writable, write-last}
 use Rattle.writable.proofs.write_verdict.Statement.{statement}
@@ -32,7 +32,7 @@ both c =
 
 -- Range, then the number
 asked : (c : tie.After-first-of) → let s = start c in
-    Asked (state s) (s .args .number) (outOrLong (state s) (s .pre .0) (s .pre .1) (s .args .l) (s .args .n)) (c .first-of .result)
+    RangeNumber (state s) (s .args .number) (outOrLong (state s) (s .pre .0) (s .pre .1) (s .args .l) (s .args .n)) (c .first-of .result)
 asked c =
     let s = start c in
     let range = c .before .before in
@@ -73,7 +73,7 @@ enum-told : tie.Need-enum-told
 enum-told c = search needs
 
 totals-of-requires : tie.Need-totals-of-requires
-totals-of-requires c κs = let s = start (c .before .before) in sane-filled (state s) (s .pre .0) (s .pre .1)
+totals-of-requires c κs = let s = start (c .before .before) in state-filled (state s) (s .pre .0) (s .pre .1)
 
 returns-2 : tie.Need-returns-2
 returns-2 c =

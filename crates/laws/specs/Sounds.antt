@@ -1,4 +1,4 @@
--- The tests of rules 1 to 6 pass exactly where the facts of `Sane` hold.
+-- The tests of rules 1 to 6 pass exactly where the facts of `SoundState` hold.
 use Prim.Native.Nat.{ℕ, suc, _+_, _-_, _*_, _/_, _%_, _≤_, _<_}
 use mathlib.Core.Bool.{Bool, true, false, not, cond}
 use mathlib.Core.Path.{_≡_, refl, sym, ap, _∙_}
@@ -18,7 +18,7 @@ use Rattle.laws.specs.Sums.{sum-same, count-const, all-each, each-all}
 use Rattle.laws.specs.Rows.{mod-shift, div-shift}
 use Rattle.laws.specs.Ranked.{Ranked, ranked-rows, rows-ranked}
 use Rattle.laws.specs.Shapes.{some-pages, pages-fit}
-use Rattle.laws.specs.Sane.{Shaped, Sane, pagesIn}
+use Rattle.laws.specs.Sound.{Shaped, SoundState, pagesIn}
 
 -- ---- an extent that lies in its block: all of its pages are in that block
 
@@ -58,14 +58,14 @@ each-rule4 s h =
 -- ---- rules 1 and 2 but for `small`, and rule 3
 
 -- rule 1 in its five parts
-pub record First (s : Lent) : Type 0 where
+pub record Rule1 (s : Lent) : Type 0 where
   pub few : s .head .used ≤ s .head .slots
   pub some : (i : ℕ) → i < s .head .used → 1 ≤ slotOf s i .count
   pub rising : (i j : ℕ) → j ≡ suc i → j < s .head .used → end (slotOf s i) ≤ slotOf s j .logical
   pub high : (i : ℕ) → i < s .head .used → end (slotOf s i) ≤ s .head .logical
   pub zeros : (k : ℕ) → 3 * s .head .used ≤ k → k < length (s .extentWords) → getD (s .extentWords) k 0 ≡ 0
 
-pub rule1-true : (s : Lent) → rule1 s ≡ true → First s
+pub rule1-true : (s : Lent) → rule1 s ≡ true → Rule1 s
 unfolding rule1
 rule1-true s e =
     let u = s .head .used in
@@ -84,7 +84,7 @@ rule1-true s e =
           ∙ eqb-true (getD (s .extentWords) (3 * u + (k - 3 * u)) 0) 0 (all-each _ _ (e₄ .1) (k - 3 * u) (omega arith));
     }
 
-pub true-rule1 : (s : Lent) → First s → rule1 s ≡ true
+pub true-rule1 : (s : Lent) → Rule1 s → rule1 s ≡ true
 unfolding rule1
 true-rule1 s f =
     let u = s .head .used in
@@ -179,7 +179,7 @@ module _ (s : Lent) (z : Shaped s) (e : sound s ≡ true) where
       let e₁ = and-split _ _ (e₂ .0) in
       (e₁ .0, e₁ .1, e₂ .1, e₃ .1, e₄ .1, e₅ .1)
 
-  one : First s
+  one : Rule1 s
   one = rule1-true s (rules .0)
 
   two : Second s
@@ -220,8 +220,8 @@ module _ (s : Lent) (z : Shaped s) (e : sound s ≡ true) where
     apart = two .apart;
   }
 
-  pub sound-sane : Sane s
-  sound-sane =
+  pub sound-state : SoundState s
+  sound-state =
       let six = rule6-true s (rules .5) in
       record {
         few = one .few;
@@ -257,15 +257,15 @@ module _ (s : Lent) (few : s .head .used ≤ s .head .slots) (r : Ranked (s .hea
         true-rule6 s kept empty,
       )
 
-module _ (s : Lent) (z : Shaped s) (f : Sane s) where
-  pub sane-ranked : Ranked (s .head .pages) (s .head .logical) (s .extentWords) (s .head .used)
-  sane-ranked = rows-ranked (s .head .pages) (s .head .logical) (s .extentWords) (s .head .used) (f .rows)
+module _ (s : Lent) (z : Shaped s) (f : SoundState s) where
+  pub state-ranked : Ranked (s .head .pages) (s .head .logical) (s .extentWords) (s .head .used)
+  state-ranked = rows-ranked (s .head .pages) (s .head .logical) (s .extentWords) (s .head .used) (f .rows)
 
-  pub sane-page : (i k : ℕ) → i < s .head .used → k < slotOf s i .count → Page s (slotOf s i .physical + k) (slotOf s i .logical + k)
-  sane-page i k h t =
+  pub state-page : (i k : ℕ) → i < s .head .used → k < slotOf s i .count → Page s (slotOf s i .physical + k) (slotOf s i .logical + k)
+  state-page i k h t =
       let p = slotOf s i .physical in
       let n = s .head .pages in
-      let g : p % n + k < n = omega (arith, sane-ranked .inside i h) in
+      let g : p % n + k < n = omega (arith, state-ranked .inside i h) in
       let e = div-shift n p k g in
       record {
         inside = div-lt-iff-lt-mul {k = n} {x = p + k} {y = s .head .blocks} (some-pages (z .sizes)) .0 (omega (arith, f .inside i h));
@@ -273,7 +273,7 @@ module _ (s : Lent) (z : Shaped s) (f : Sane s) where
         labelled = f .labelled i k h t;
       }
 
-  pub sane-sound : sound s ≡ true
-  sane-sound =
-      ranked-sound s (f .few) sane-ranked (f .zeros) (record { full = f .full; labels = f .labels; blank = f .blank })
-      sane-page (f .counts) (f .kept) (f .empty)
+  pub state-sound : sound s ≡ true
+  state-sound =
+      ranked-sound s (f .few) state-ranked (f .zeros) (record { full = f .full; labels = f .labels; blank = f .blank })
+      state-page (f .counts) (f .kept) (f .empty)

@@ -1,4 +1,4 @@
--- What a shape and a sound state say, as facts about the lent words: the tests of `Shape` and `Sound` pass exactly where these hold.
+-- What a shape and a sound state say, as facts about the lent words: the tests of `Shape` and `SoundDevice` pass exactly where these hold.
 use Prim.Native.Nat.{ℕ, _+_, _-_, _*_, _/_, _%_, _≤_, _<_}
 use mathlib.Core.Bool.{cond}
 use mathlib.Core.Path.{_≡_}
@@ -11,7 +11,7 @@ use Rattle.rules.specs.Blocks.{stride}
 use Rattle.rules.specs.Lent.{Lent, slotOf, inUse, fillOf, validOf, labelOf}
 use Rattle.rules.specs.Device.{Device, blocks, lines, extents}
 use Rattle.laws.specs.Rows.{Rows}
-use Rattle.laws.specs.Device.{Sound}
+use Rattle.laws.specs.Device.{SoundDevice}
 
 -- 01, Numbers
 pub record Sizes (b n l m : ℕ) : Type 0 where
@@ -35,7 +35,7 @@ unfoldable pub pagesIn : List ℕ → ℕ → ℕ → ℕ → ℕ
 pagesIn ws n b i = cond (eqb (slot ws i .physical / n) b) (slot ws i .count) 0
 
 -- rules 1 to 6
-pub record Sane (s : Lent) : Type 0 where
+pub record SoundState (s : Lent) : Type 0 where
   pub few : s .head .used ≤ s .head .slots
   -- rules 1 and 2
   pub rows : Rows (s .head .pages) 0 none (s .head .logical) (inUse s)
@@ -55,7 +55,7 @@ pub record Sane (s : Lent) : Type 0 where
   pub empty : fillOf s (s .head .reserve) ≡ 0
 
 -- a plain device whose words are a sound state
-pub record Good (d : Device) : Type 0 where
+pub record Storable (d : Device) : Type 0 where
   pub sizes : Sizes (blocks d) (d .pages) (lines d) (d .slots)
-  pub sound : Sound d
+  pub sound : SoundDevice d
   pub few : length (extents d) ≤ d .slots
