@@ -189,7 +189,8 @@ module _ (k l n : ℕ) (s : Lent) (z : Ready (Call.trim k l n) s) where
     last = last;
   }
 
-  pub trim-leaves : (used : ℕ) (last : Last) (ext blk : List ℕ) → Holed l n s used ext blk → last ≡ kept k → lent (trimHead used last) ext blk (s .spare) ≡ wordsOf (leaves (Call.trim k l n) (deviceOf s))
+  pub trim-leaves : (used : ℕ) (last : Last) (ext blk : List ℕ) → Holed l n s used ext blk → last ≡ kept k
+      → lent (trimHead used last) ext blk (s .spare) ≡ wordsOf (leaves (Call.trim k l n) (deviceOf s))
   unfolding leaves wordsOf headOf trimmed withTable deviceOf extents valid mapped
   trim-leaves used last ext blk w g = λ i. lent
       (record {

@@ -103,7 +103,8 @@ pub fn place_pages(
     out: &mut [u32],
 ) -> Listed
     requires { ⌜ Ready (Call.write number l n (now out)) (lent h (now ext) (now blk) (now spare)) × Meets l n (lent h (now ext) (now blk) (now spare)) m ⌝ }
-    ensures { λ r. ⌜ outcome (listed r) (now (ext .exit)) (now (blk .exit)) (now (spare .exit)) (now (out .exit)) ≡ call (Call.write number l n (now (out .entry))) (lent h (now (ext .entry)) (now (blk .entry)) (now (spare .entry))) ⌝ }
+    ensures { λ r. ⌜ outcome (listed r) (now (ext .exit)) (now (blk .exit)) (now (spare .exit)) (now (out .exit))
+        ≡ call (Call.write number l n (now (out .entry))) (lent h (now (ext .entry)) (now (blk .entry)) (now (spare .entry))) ⌝ }
 {
     let sides = m.sides;
     let left = cut_range(h, ext, blk, spare, sides, l, n);
@@ -126,7 +127,8 @@ pub fn empty_victim(
 ) -> Listed
     requires { ⌜ Ready (Call.reclaim (now out)) (lent h (now ext) (now blk) (now spare)) ⌝ }
     requires { ⌜ v ≡ victim (deviceOf (lent h (now ext) (now blk) (now spare))) ⌝ }
-    ensures { λ r. ⌜ outcome (listed r) (now (ext .exit)) (now (blk .exit)) (now (spare .exit)) (now (out .exit)) ≡ call (Call.reclaim (now (out .entry))) (lent h (now (ext .entry)) (now (blk .entry)) (now (spare .entry))) ⌝ }
+    ensures { λ r. ⌜ outcome (listed r) (now (ext .exit)) (now (blk .exit)) (now (spare .exit)) (now (out .exit))
+        ≡ call (Call.reclaim (now (out .entry))) (lent h (now (ext .entry)) (now (blk .entry)) (now (spare .entry))) ⌝ }
 {
     let used = h.used as usize;
     let n = h.pages;

@@ -19,7 +19,8 @@ use Rattle.laws.specs.Picks.{most-lt, most-top, most-lowest}
 use Rattle.laws.specs.Device.{SoundDevice, same-block}
 use Rattle.laws.specs.Live.{named-by, named-label}
 use Rattle.laws.specs.Balance.{valid-stale, valid-le, stale-reserve, balance}
-use Rattle.laws.specs.Reclaimed.{re-last, re-reserve, re-slots, goes-within, nth, rank-lt, re-at, re-at-other, re-at-within, re-blocks, re-fill, re-fill-reserve, re-fill-victim, re-hole, re-lines, re-pages, re-some, re-sound, source, within}
+use Rattle.laws.specs.Reclaimed.{re-last, re-reserve, re-slots, goes-within, nth, rank-lt, re-at, re-at-other, re-at-within, re-blocks}
+use Rattle.laws.specs.Reclaimed.{re-fill, re-fill-reserve, re-fill-victim, re-hole, re-lines, re-pages, re-some, re-sound, source, within}
 
 -- how many blocks have stale pages
 unfoldable pub staleBlocks : Device → ℕ
@@ -76,7 +77,8 @@ module _ (d : Device) (s : SoundDevice d) (v : ℕ) (a : v < blocks d) (e : v �
   re-stale-other c h f =
       by-cases (ℕ-discrete c (d .reserve))
       (λ g. rw (g, (re-fill-reserve d s v a e)) (count-none (valid d v) (λ o. not (named (reclaimedAt v d) (d .reserve) o)) (λ i t. ap not (re-named-in i t)) ∙ sym (stale-reserve d s)))
-      (λ g. rw ((re-fill d s v a e) c f g) (count-same (fill d c) (λ o. not (named (reclaimedAt v d) c o)) (λ o. not (named d c o)) (λ o t. ap not (re-named-other c o h (omega (arith, s .full c h)) f g))))
+      (λ g. rw ((re-fill d s v a e) c f g) (count-same (fill d c) (λ o. not (named (reclaimedAt v d) c o)) (λ o. not (named d c o))
+      (λ o t. ap not (re-named-other c o h (omega (arith, s .full c h)) f g))))
 
   pub re-stale-reserve : staleIn (reclaimedAt v d) (d .reserve) ≡ 0
   re-stale-reserve = re-stale-other (d .reserve) (s .kept) (λ g. e (sym g)) ∙ stale-reserve d s

@@ -49,7 +49,8 @@ pub fn read(
     n: u32,
     out: &mut [u32],
 ) -> Listed
-    ensures { λ r. ⌜ outcome (listed r) (now (ext .entry)) (now (blk .entry)) (now (spare .entry)) (now (out .exit)) ≡ call (Call.read l n (now (out .entry))) (lent h (now (ext .entry)) (now (blk .entry)) (now (spare .entry))) ⌝ }
+    ensures { λ r. ⌜ outcome (listed r) (now (ext .entry)) (now (blk .entry)) (now (spare .entry)) (now (out .exit))
+        ≡ call (Call.read l n (now (out .entry))) (lent h (now (ext .entry)) (now (blk .entry)) (now (spare .entry))) ⌝ }
 {
     let v = verdicts::lent_verdict(h, ext, blk, spare);
     if let Verdict::Refused(r) = v {
@@ -101,7 +102,8 @@ pub fn write(
     n: u32,
     out: &mut [u32],
 ) -> Listed
-    ensures { λ r. ⌜ outcome (listed r) (now (ext .exit)) (now (blk .exit)) (now (spare .exit)) (now (out .exit)) ≡ call (Call.write number l n (now (out .entry))) (lent h (now (ext .entry)) (now (blk .entry)) (now (spare .entry))) ⌝ }
+    ensures { λ r. ⌜ outcome (listed r) (now (ext .exit)) (now (blk .exit)) (now (spare .exit)) (now (out .exit))
+        ≡ call (Call.write number l n (now (out .entry))) (lent h (now (ext .entry)) (now (blk .entry)) (now (spare .entry))) ⌝ }
 {
     let v = verdicts::lent_verdict(h, ext, blk, spare);
     if let Verdict::Refused(r) = v {
@@ -122,7 +124,8 @@ pub fn reclaim(
     spare: &mut [u32],
     out: &mut [u32],
 ) -> Listed
-    ensures { λ r. ⌜ outcome (listed r) (now (ext .exit)) (now (blk .exit)) (now (spare .exit)) (now (out .exit)) ≡ call (Call.reclaim (now (out .entry))) (lent h (now (ext .entry)) (now (blk .entry)) (now (spare .entry))) ⌝ }
+    ensures { λ r. ⌜ outcome (listed r) (now (ext .exit)) (now (blk .exit)) (now (spare .exit)) (now (out .exit))
+        ≡ call (Call.reclaim (now (out .entry))) (lent h (now (ext .entry)) (now (blk .entry)) (now (spare .entry))) ⌝ }
 {
     let v = verdicts::lent_verdict(h, ext, blk, spare);
     if let Verdict::Refused(r) = v {

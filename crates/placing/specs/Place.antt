@@ -80,7 +80,9 @@ placed-some blk spare out blk′ ys out′ b n l m k f e s h labels records piec
       many = omega (arith, ap length one-listed);
       records = records;
       labels = put-part p (p + m) spare ys (omega arith) h size ∙ ap₂ (λ (y : ℕ) (vs : List ℕ). sets spare (b * n + y) vs) e all;
-      pieces = pieces ∙ put-slot-sets out k (extent l (b * n + f) m) ∙ ap (λ (y : ℕ). sets out (3 * k) (flat (extent l (b * n + y) m ∷ []))) e ∙ sym (ap (λ (es : List Extent). sets out (3 * k) (flat es)) one-listed);
+      pieces = pieces ∙ put-slot-sets out k (extent l (b * n + f) m)
+          ∙ ap (λ (y : ℕ). sets out (3 * k) (flat (extent l (b * n + y) m ∷ []))) e
+          ∙ sym (ap (λ (es : List Extent). sets out (3 * k) (flat es)) one-listed);
     }
 
 -- ---- what it comes to

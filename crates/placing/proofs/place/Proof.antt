@@ -16,80 +16,50 @@ abbrev μ-loop : tie.MeasureT-loop
 loop-holds : tie.Need-loop-holds Inv-loop μ-loop
 loop-holds c = let q = c .before .before .before .pre in placing-start _ _ _ _ _ _ _ _ _ (q .start) (q .valid)
 
-sub-room-in : tie.Need-sub-room-in Inv-loop μ-loop
-sub-room-in c = search needs
+-- where block b's part of the write is known
+abbrev loop : tie.After-room-in Inv-loop μ-loop → tie.At-loop Inv-loop μ-loop
+loop w = w .before .before .before
 
-room-in-requires : tie.Need-room-in-requires Inv-loop μ-loop
-room-in-requires c κs = search needs
-
-add-place-in : tie.Need-add-place-in Inv-loop μ-loop
-add-place-in c = search needs
+abbrev start : tie.After-room-in Inv-loop μ-loop → tie.Start Inv-loop μ-loop
+start w = loop w .before .before .before .before
 
 place-in-requires : tie.Need-place-in-requires Inv-loop μ-loop
 place-in-requires c κs =
-    let v = c .before .before .before .before .before .before .before .before .before .before .args in
-    let i = c .before .before .before .before .before .before .loop in
-    let m = c .before .before .before .room-in .result in
-    let t = c .before .before .before .room-in .ensures in
-    placing-fits (v .n) (v .reserve) (v .blocks) (v .from) (v .l) (v .want) (v .blk .now) (v .spare .now) (v .out .now) (c .before .before .before .before .before .before .before .before .before .before .pre)
-    (i .blk) (i .spare) (i .out) (i .b) (i .done) (i .k) (i .inv) m (omega arith) t
+    let w = c .before .before .before in
+    let s = start w in
+    let v = s .args in
+    let i = loop w .loop in
+    placing-fits (v .n) (v .reserve) (v .blocks) (v .from) (v .l) (v .want) (v .blk .now) (v .spare .now) (v .out .now) (s .pre)
+    (i .blk) (i .spare) (i .out) (i .b) (i .done) (i .k) (i .inv) (w .room-in .result) (omega arith) (w .room-in .ensures)
 
 add-done : tie.Need-add-done Inv-loop μ-loop
 add-done c =
-    let v = c .before .before .before .before .before .before .before .before .before .before .before .before .before .before .before .before .before .args in
-    let i = c .before .before .before .before .before .before .before .before .before .before .before .before .before .loop in
-    let m = c .before .before .before .before .before .before .before .before .before .before .room-in .result in
-    let t = c .before .before .before .before .before .before .before .before .before .before .room-in .ensures in
-    omega (arith, taken-le (v .n) (v .reserve) (i .b) (fillWord (i .blk) (i .b)) (v .want - i .done))
-
-add-b : tie.Need-add-b Inv-loop μ-loop
-add-b c = search needs
-
-loop-less : tie.Need-loop-less Inv-loop μ-loop
-loop-less c = search needs
+    let w = c .before .before .before .before .before .before .before .before .before .before in
+    let v = start w .args in
+    let i = loop w .loop in
+    omega (arith, taken-le (v .n) (v .reserve) (i .b) (fillWord (i .blk) (i .b)) (v .want - i .done), w .room-in .ensures)
 
 loop-again : tie.Need-loop-again Inv-loop μ-loop
 loop-again c =
-    let v = c .before .before .before .before .before .before .before .before .before .before .before .before .before .before .before .before .before .args in
-    let i = c .before .before .before .before .before .before .before .before .before .before .before .before .before .loop in
-    let m = c .before .before .before .before .before .before .before .before .before .before .room-in .result in
-    let t = c .before .before .before .before .before .before .before .before .before .before .room-in .ensures in
-    placing-step (v .n) (v .reserve) (v .blocks) (v .from) (v .l) (v .want) (v .blk .now) (v .spare .now) (v .out .now) (c .before .before .before .before .before .before .before .before .before .before .before .before .before .before .before .before .before .pre)
-    (i .blk) (i .spare) (i .out) (i .b) (i .done) (i .k) (i .inv) m (omega arith) t
-    (c .before .before .before .before .before .before .place-in .last .0) (c .before .before .before .before .before .before .place-in .last .1 .0) (c .before .before .before .before .before .before .place-in .last .1 .1 .0) (c .before .before .before .before .before .before .place-in .result) (c .before .before .before .before .before .before .place-in .ensures)
-
-same-length : tie.Need-same-length Inv-loop μ-loop
-same-length c = search needs
-
-same-length-2 : tie.Need-same-length-2 Inv-loop μ-loop
-same-length-2 c = search needs
-
-same-length-3 : tie.Need-same-length-3 Inv-loop μ-loop
-same-length-3 c = search needs
+    let w = c .before .before .before .before .before .before .before .before .before .before in
+    let s = start w in
+    let v = s .args in
+    let i = loop w .loop in
+    let p = c .before .before .before .before .before .before .place-in in
+    placing-step (v .n) (v .reserve) (v .blocks) (v .from) (v .l) (v .want) (v .blk .now) (v .spare .now) (v .out .now) (s .pre)
+    (i .blk) (i .spare) (i .out) (i .b) (i .done) (i .k) (i .inv) (w .room-in .result) (omega arith) (w .room-in .ensures)
+    (p .last .0) (p .last .1 .0) (p .last .1 .1 .0) (p .result) (p .ensures)
 
 returns : tie.Need-returns Inv-loop μ-loop
 returns c =
-    let v = c .before .before .before .before .before .args in
+    let s = c .before .before .before .before .before in
+    let v = s .args in
     let i = c .before .loop in
-    placing-end (v .n) (v .reserve) (v .blocks) (v .from) (v .l) (v .want) (v .blk .now) (v .spare .now) (v .out .now) (c .before .before .before .before .before .pre)
+    placing-end (v .n) (v .reserve) (v .blocks) (v .from) (v .l) (v .want) (v .blk .now) (v .spare .now) (v .out .now) (s .pre)
     (i .blk) (i .spare) (i .out) (i .b) (i .done) (i .k) (i .inv) (omega arith)
 
 pub place-spec : {M : Type 1} → statement M
 place-spec =
     tie.close
-    (tie.spec
-    Inv-loop
-    μ-loop
-    loop-holds
-    sub-room-in
-    room-in-requires
-    add-place-in
-    place-in-requires
-    add-done
-    add-b
-    loop-less
-    loop-again
-    same-length
-    same-length-2
-    same-length-3
-    returns)
+    (tie.spec Inv-loop μ-loop loop-holds (λ c. search needs) (λ c κs. search needs) (λ c. search needs) place-in-requires add-done
+    (λ c. search needs) (λ c. search needs) loop-again (λ c. search needs) (λ c. search needs) (λ c. search needs) returns)
