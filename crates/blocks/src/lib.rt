@@ -1,4 +1,5 @@
-// The block records: does each stand as rules 3 and 5 ask, and what do they come to? `totals_of` takes those of a sound state.
+// The sound test, block by block: does each record stand as rules 3 and 5 ask? Words of the right shape are assumed, and the pages that the extents
+// have in each block. And what the records of a sound state come to: free, live and stale.
 use rules::Head;
 ghost use mathlib.Core.Path.{_≡_};
 ghost use Prim.Native.Nat.{ℕ, _<_, _≤_};

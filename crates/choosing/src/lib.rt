@@ -1,4 +1,5 @@
-// What a reclaim takes: the victim, where each of its mapped pages goes, and the list of copies.
+// What a reclaim takes: its victim, the rank of each of the victim's mapped pages, which is where it goes in the reserve, and the list of copies. The records
+// and extents are assumed to be those of a sound state; but for the answer buffer nothing is changed.
 ghost use mathlib.Core.Path.{_≡_};
 ghost use Prim.Native.Nat.{ℕ, _+_, _*_, _%_, _<_, _≤_};
 ghost use lib.ListN.{length, getD};

@@ -1,4 +1,5 @@
-// A range cut out of the extents, in place.
+// A range cut out of the extents, in place. Assumed are the extents of a sound state, the sides of the range among them and a slot for what is taken
+// apart; promised is the list of extents without the range, and zeros behind it.
 use map::Sides;
 use rules::Extent;
 ghost use mathlib.Core.Path.{_≡_};

@@ -1,5 +1,5 @@
-// The extents of a state, three words a slot and zeros behind them: where a range meets them, and one slot put or let in. `Holds` says that
-// words are of this form; each function that changes them leaves them so.
+// The extents of a sound state: where a page and a range meet them, found by halving the slots, and one extent let in. `Holds` says that words are
+// extents in their first slots and zeros behind; whatever changes the map, here, in `cutting` and in `putting`, leaves it so.
 ghost use mathlib.Core.Path.{_≡_};
 ghost use Prim.Native.Nat.{_+_, _*_, _<_, _≤_, _^_};
 ghost use mathlib.Core.List.{_∷_, _++_};

@@ -1,4 +1,5 @@
-// A write's pieces put into the extents, in place.
+// A write's pieces put into the extents, in place, where its range was cut out: assumed are the slot they come in at, whether the first joins the extent in
+// front of it, and slots enough; promised is the list of extents with them, and zeros behind it.
 use rules::Extent;
 ghost use mathlib.Core.Path.{_≡_};
 ghost use Prim.Native.Nat.{_+_, _-_, _*_, _<_, _≤_, _^_};

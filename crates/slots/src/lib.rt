@@ -1,4 +1,5 @@
-// The walk over the slots: does every extent stand as rules 1, 2 and 4 ask?
+// The sound test, slot by slot: does every extent in use stand as rules 1, 2 and 4 ask? Words of the right shape are assumed, with slots in use
+// that are there; promised are the answer and, where it is yes, the pages that the extents have in each block.
 ghost use Prim.Native.Nat.{_<_};
 ghost use Rattle.words.specs.Says.{Says};
 ghost use Rattle.slots.specs.Slot.{SlotStands, HomeGiven, HomeWords};

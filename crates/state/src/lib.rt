@@ -1,4 +1,5 @@
-// Refusals 1 and 2 on lent words. `shape_ok` takes any head and any lengths, `is_sound` words of the right shape.
+// Refusals 1 and 2 on lent words: `shape_ok` takes any head and any lengths, `is_sound` words of the right shape. Each promises the rules' own test, and
+// nothing is changed.
 use rules::Head;
 ghost use mathlib.Core.Path.{_≡_};
 ghost use mathlib.Core.Bool.{true};

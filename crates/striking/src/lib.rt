@@ -1,4 +1,5 @@
-// The valid counts of the blocks, changed in place: what they lose where a range is cut out of the extents.
+// The pages of a range struck off the valid counts of their blocks, each of them once. The extents are assumed to be those of a sound state, before the
+// range is cut out of them; promised is what each block has left, and that no fill changes.
 ghost use mathlib.Core.Path.{_≡_};
 ghost use Prim.Native.Nat.{_+_, _-_, _*_, _/_, _<_, _≤_, min, max};
 ghost use mathlib.Core.List.{[], _∷_};

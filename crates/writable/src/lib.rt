@@ -1,4 +1,5 @@
-// What a write of a sound state is refused for, and where its new extents meet the old ones.
+// What a write of a sound state is refused for, and where its new extents meet the old ones: found first, for any range, then handed to the verdict and to
+// the change. Nothing is changed here.
 use map::Sides;
 use rules::Head;
 use rules::Refusal;
