@@ -41,7 +41,7 @@ pub fn make_fresh(
     words::fill_with(ext, 0);
     words::fill_with(blk, 0);
     words::fill_with(spare, 4294967295);
-    let mut h = rules::sizes_only(b, n, l, m);
+    let mut h = words::sizes_only(b, n, l, m);
     h.reserve = b - 1;
     Done::Accepted(h)
 }
@@ -112,7 +112,7 @@ pub fn place_pages(
     let used = putting::put_pieces(ext, left as usize, sides.before, m.joined, out, k as usize);
     let mut g = h;
     g.used = used as u32;
-    g.last = rules::kept(number);
+    g.last = words::kept(number);
     Listed::Accepted(k, g)
 }
 

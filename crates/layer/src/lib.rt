@@ -23,7 +23,7 @@ pub fn fresh(
 ) -> Done
     ensures { λ r. ⌜ outcome (done r) (now (ext .exit)) (now (blk .exit)) (now (spare .exit)) [] ≡ fresh blocks pages logical slots (now (ext .entry)) (now (blk .entry)) (now (spare .entry)) ⌝ }
 {
-    let given = rules::sizes_only(blocks, pages, logical, slots);
+    let given = words::sizes_only(blocks, pages, logical, slots);
     if !state::shape_ok(given, ext.len(), blk.len(), spare.len()) {
         return Done::Refused(Refusal::Shape, given);
     }
@@ -88,7 +88,7 @@ pub fn trim(
     let used = accepted::cut_range(h, ext, blk, spare, sides, l, n);
     let mut g = h;
     g.used = used;
-    g.last = rules::kept(number);
+    g.last = words::kept(number);
     Done::Accepted(g)
 }
 

@@ -3,7 +3,7 @@ use crate::within;
 use libc::STDOUT_FILENO;
 use rules::Head;
 use rules::Refusal;
-use rules::number_of;
+use words::number_of;
 
 // What is printed for a request, but for a state. The words of a list of pieces or of copied pages stand in the answer buffer.
 pub enum Answer {

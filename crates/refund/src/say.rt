@@ -3,7 +3,7 @@ use libc::STDERR_FILENO;
 use libc::STDOUT_FILENO;
 use lists::print::Sink;
 use rules::Refusal;
-use rules::number_of;
+use words::number_of;
 
 pub fn text(text: &[u8]) {
     if !io::write_all(STDOUT_FILENO, text) {

@@ -8,8 +8,8 @@ use rules::Done;
 use rules::Head;
 use rules::Listed;
 use rules::Refusal;
-use rules::kept;
-use rules::sizes_only;
+use words::kept;
+use words::sizes_only;
 
 // The most of B, of B x N and of M that is held: those of the largest device.
 const MOST_BLOCKS: usize = 1024;

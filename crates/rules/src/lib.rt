@@ -1,9 +1,5 @@
 // What goes in and comes back by value: the head, an extent, the record of a block, the refusals, and the answers of the calls. Each has
 // the paper's words for names. What the numbers and values of an answer are is said once, in specs/Answers.antt.
-ghost use mathlib.Core.Path.{_≡_};
-ghost use Rattle.rules.specs.Answers.{number};
-ghost use Rattle.rules.specs.Request.{kept};
-ghost use Rattle.rules.specs.Calls.{sizesOnly};
 
 // What is known of the last accepted write or trim: its number, 0 where there was none.
 #[repr(C)]
@@ -65,42 +61,4 @@ pub enum Listed {
 pub enum Counted {
     Accepted(u32, u32, u32, Head),
     Refused(Refusal, Head),
-}
-
-// The paper's number of a refusal.
-pub fn number_of(r: Refusal) -> u32
-    ensures { λ k. ⌜ k ≡ number r ⌝ }
-{
-    match r {
-        Refusal::Shape => 1,
-        Refusal::Damaged => 2,
-        Refusal::Range => 3,
-        Refusal::Applied => 4,
-        Refusal::NoPages => 5,
-        Refusal::NoNodes => 6,
-        Refusal::OutShort => 7,
-        Refusal::NothingStale => 8,
-    }
-}
-
-// What is known of a request with this number, once it is accepted.
-pub fn kept(number: u64) -> Last
-    ensures { λ r. ⌜ r ≡ kept number ⌝ }
-{
-    Last { number: number }
-}
-
-// The head of four sizes, and zero elsewhere.
-pub fn sizes_only(blocks: u32, pages: u32, logical: u32, slots: u32) -> Head
-    ensures { λ h. ⌜ h ≡ sizesOnly blocks pages logical slots ⌝ }
-{
-    Head {
-        blocks: blocks,
-        pages: pages,
-        logical: logical,
-        slots: slots,
-        used: 0,
-        reserve: 0,
-        last: kept(0),
-    }
 }

@@ -51,7 +51,7 @@ fn of_done(d: Done) -> Outcome
             head: h,
         },
         Done::Refused(r, h) => Outcome {
-            refusal: rules::number_of(r),
+            refusal: words::number_of(r),
             count: 0,
             head: h,
         },
@@ -68,7 +68,7 @@ fn of_listed(d: Listed) -> Outcome
             head: h,
         },
         Listed::Refused(r, h) => Outcome {
-            refusal: rules::number_of(r),
+            refusal: words::number_of(r),
             count: 0,
             head: h,
         },
@@ -87,7 +87,7 @@ fn of_counted(d: Counted) -> Counts
             head: h,
         },
         Counted::Refused(r, h) => Counts {
-            refusal: rules::number_of(r),
+            refusal: words::number_of(r),
             free: 0,
             live: 0,
             stale: 0,

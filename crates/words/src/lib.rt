@@ -1,17 +1,64 @@
-// Leaves on lent words: the record of a block, the slot of an extent, scans of a part, and stores into a part. What a block record holds,
-// and how far apart two records stand, is known here and in specs/Blocks.antt of `rules`, and nowhere else in the code.
+// Leaves on what is lent: the record of a block, the slot of an extent, scans of a part, and stores into a part; and what goes by value: a refusal's
+// number, a head of sizes, what is kept of a request. What a block record holds, and how far apart two records stand, is known here and in
+// specs/Blocks.antt of `rules`, and nowhere else in the code.
 use rules::BlockRecord;
 use rules::Extent;
+use rules::Head;
+use rules::Last;
+use rules::Refusal;
 ghost use mathlib.Core.Path.{_≡_};
 ghost use Prim.Native.Nat.{_+_, _-_, _*_, _<_, _≤_, _^_};
 ghost use mathlib.Core.List.{_∷_, _++_};
 ghost use lib.ListN.{length, getD, take, drop, replicate};
 ghost use lib.Dec.{eqb, ltb};
 ghost use Rattle.rules.specs.Counting.{all, tabulate};
+ghost use Rattle.rules.specs.Answers.{number};
+ghost use Rattle.rules.specs.Request.{kept};
+ghost use Rattle.rules.specs.Calls.{sizesOnly};
 ghost use Rattle.rules.specs.Blocks.{fillWord, validWord, HasBlock, blockAt, putBlock};
 ghost use Rattle.rules.specs.Extents.{slot, putSlot};
 
 pub const STRIDE: usize = 2;
+
+// ---- values
+
+// The paper's number of a refusal.
+pub fn number_of(r: Refusal) -> u32
+    ensures { λ k. ⌜ k ≡ number r ⌝ }
+{
+    match r {
+        Refusal::Shape => 1,
+        Refusal::Damaged => 2,
+        Refusal::Range => 3,
+        Refusal::Applied => 4,
+        Refusal::NoPages => 5,
+        Refusal::NoNodes => 6,
+        Refusal::OutShort => 7,
+        Refusal::NothingStale => 8,
+    }
+}
+
+// What is known of a request with this number, once it is accepted.
+pub fn kept(number: u64) -> Last
+    ensures { λ r. ⌜ r ≡ kept number ⌝ }
+{
+    Last { number: number }
+}
+
+// The head of four sizes, and zero elsewhere.
+pub fn sizes_only(blocks: u32, pages: u32, logical: u32, slots: u32) -> Head
+    ensures { λ h. ⌜ h ≡ sizesOnly blocks pages logical slots ⌝ }
+{
+    Head {
+        blocks: blocks,
+        pages: pages,
+        logical: logical,
+        slots: slots,
+        used: 0,
+        reserve: 0,
+        last: kept(0),
+    }
+}
 
 // ---- block records
 

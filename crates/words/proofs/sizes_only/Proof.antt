@@ -1,8 +1,8 @@
 use borrow.Author.Needs.{needs}
 use mathlib.Core.Path.{ap}
 use Rattle.rules.specs.declared.Last.{Last}
-use Rattle.rules.proofs.sizes_only.Statement.{statement}
-use Rattle.rules.proofs.sizes_only.Tie as tie
+use Rattle.words.proofs.sizes_only.Statement.{statement}
+use Rattle.words.proofs.sizes_only.Tie as tie
 
 kept-requires : tie.Need-kept-requires
 kept-requires c κs = search needs
