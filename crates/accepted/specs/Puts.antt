@@ -72,7 +72,8 @@ module _ (l n : ℕ) (d : Device) (s : SoundDevice d) (some : 0 < n) (enough : n
       ap (λ (ps : List Extent). putIn i joined ps (cut l (l + n) (extents d))) is
       ∙ sym (place-put (d .pages) (lines d) l (l + n) f (b .rest) (extents d) inside
       (subst (λ (ps : List Extent). Rows (d .pages) l none (l + n) ps) is rows) (extents-rows d s) refl left
-      (subst (λ (ps : List Extent). lookup (extents d) (l + n) ≡ tip none ps → tip none ps % d .pages ≡ 0) is right) i joined e (j ∙ same-join (d .pages) l (firstPlace l n d) (b .count) (extents d)))
+      (subst (λ (ps : List Extent). lookup (extents d) (l + n) ≡ tip none ps → tip none ps % d .pages ≡ 0) is right)
+      i joined e (j ∙ same-join (d .pages) l (firstPlace l n d) (b .count) (extents d)))
       ∙ ap (λ (ps : List Extent). place (d .pages) l (l + n) ps (extents d)) (sym is)
       ∙ written
     where

@@ -146,7 +146,8 @@ module _ {A : Type 0} (z : A) where
   copiesInto a (p ∷ ps) xs = copiesInto (suc a) ps (set xs a (getD xs p z))
 
   -- no cell is read after it was stored
-  pub copies-copied : (ps : List ℕ) (a : ℕ) (xs : List A) → ((i : ℕ) → i < length ps → a ≤ getD ps i 0 → getD ps i 0 < a + length ps → ⊥) → copiesInto a ps xs ≡ copied z a ps xs
+  pub copies-copied : (ps : List ℕ) (a : ℕ) (xs : List A)
+      → ((i : ℕ) → i < length ps → a ≤ getD ps i 0 → getD ps i 0 < a + length ps → ⊥) → copiesInto a ps xs ≡ copied z a ps xs
   unfolding copiesInto copied
   copies-copied [] a xs h = refl
   copies-copied (p ∷ ps) a xs h =

@@ -19,7 +19,8 @@ use Rattle.laws.specs.Device.{SoundDevice}
 use Rattle.laws.specs.Order.{puts-all}
 
 -- lines may become holes
-pub fewer-sound : (t : List ℕ) (k : ℕ) (d : Device) → SoundDevice d → length t ≡ lines d → ((l : ℕ) → (getD t l none ≡ none → ⊥) → getD t l none ≡ at d l) → SoundDevice (withTable t k d)
+pub fewer-sound : (t : List ℕ) (k : ℕ) (d : Device) → SoundDevice d → length t ≡ lines d
+    → ((l : ℕ) → (getD t l none ≡ none → ⊥) → getD t l none ≡ at d l) → SoundDevice (withTable t k d)
 unfolding withTable
 fewer-sound t k d s e same = record {
   some = s .some;

@@ -186,7 +186,8 @@ walk-over ws u pos e i h =
     ap (λ (m : ℕ). between pos e (slotsFrom ws i m)) z ∙ between-none pos e
 
 -- a read may start at the first slot that ends after l
-pub walk-start : (l e i : ℕ) (ws : List ℕ) (u : ℕ) → SoundMap (slotsFrom ws 0 u) → i ≡ endsBy l (slotsFrom ws 0 u) → between l e (slotsFrom ws 0 u) ≡ between l e (slotsFrom ws i (u - i))
+pub walk-start : (l e i : ℕ) (ws : List ℕ) (u : ℕ) → SoundMap (slotsFrom ws 0 u) → i ≡ endsBy l (slotsFrom ws 0 u)
+    → between l e (slotsFrom ws 0 u) ≡ between l e (slotsFrom ws i (u - i))
 walk-start l e i ws u s h = ap (λ (es : List Extent). withHoles l e (below e es)) (from-there ws u l i s h)
 
 -- ---- how many pieces it finds: k so far

@@ -132,7 +132,8 @@ fn put_slot(ext: &[u32], i: usize, pos: u32, e: u32, out: &mut [u32], k: usize) 
 pub fn list_found(ext: &[u32], used: usize, first: usize, l: u32, e: u32, out: &mut [u32]) -> usize
     requires { ⌜ (3 * used ≤ length (now ext)) × (l ≤ e) × SoundMap (slotsFrom (now ext) 0 used) × (first ≡ endsBy l (slotsFrom (now ext) 0 used)) ⌝ }
     requires { ⌜ 3 * length (between l e (slotsFrom (now ext) 0 used)) ≤ length (now out) ⌝ }
-    ensures { λ r. ⌜ (r ≡ length (between l e (slotsFrom (now (ext .entry)) 0 used))) × (now (out .exit) ≡ over (flat (between l e (slotsFrom (now (ext .entry)) 0 used))) (now (out .entry))) ⌝ }
+    ensures { λ r. ⌜ (r ≡ length (between l e (slotsFrom (now (ext .entry)) 0 used)))
+        × (now (out .exit) ≡ over (flat (between l e (slotsFrom (now (ext .entry)) 0 used))) (now (out .entry))) ⌝ }
 {
     let mut k: usize = 0;
     let mut pos = l;

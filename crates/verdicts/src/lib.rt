@@ -106,7 +106,8 @@ pub fn trim_verdict(
     l: u32,
     n: u32,
 ) -> Verdict
-    requires { ⌜ Shaped (lent h (now ext) (now blk) (now spare)) × SoundState (lent h (now ext) (now blk) (now spare)) × Beside l (l + n) (inUse (lent h (now ext) (now blk) (now spare))) sides ⌝ }
+    requires { ⌜ Shaped (lent h (now ext) (now blk) (now spare)) × SoundState (lent h (now ext) (now blk) (now spare))
+        × Beside l (l + n) (inUse (lent h (now ext) (now blk) (now spare))) sides ⌝ }
     ensures { λ v. ⌜ told v ≡ trimRefusal number l n (deviceOf (lent h (now (ext .entry)) (now (blk .entry)) (now (spare .entry)))) ⌝ }
 {
     let range = unless(in_range(h.logical, l, n), Refusal::Range);
