@@ -5,17 +5,20 @@ use mathlib.Core.Path.{_≡_, refl}
 use mathlib.Core.List.{List, [], _∷_, _++_}
 use mathlib.Core.Logic.{inl}
 use native.Mathlib.Omega.{arith}
+use lib.Dec.{eqb}
 use lib.ListN.{take, drop, replicate}
+use Rattle.rules.specs.Extents.{none}
 use Rattle.rules.specs.Blocks.{stride}
 use Rattle.rules.specs.Lent.{Lent, lent}
 use Rattle.rules.specs.Shape.{shape, shaped}
 use Rattle.rules.specs.Sound.{sound}
-use Rattle.rules.specs.Device.{at, deviceOf}
+use Rattle.rules.specs.Device.{Device, at, deviceOf, wordsOf}
 use Rattle.rules.specs.Answers.{Outcome, refuse}
 use Rattle.rules.specs.Makes.{Make, make}
 use Rattle.rules.specs.Calls.{Call, call, sizesOnly, fresh}
 use Rattle.rules.specs.Request.{kept}
 use Rattle.rules.specs.Opened.{opened}
+use Rattle.rules.specs.Cases.{sameBy}
 use Rattle.rules.specs.declared.Refusal.{Refusal}
 use Rattle.laws.specs.Cells.{replicate-at}
 use Rattle.laws.specs.Sound.{Storable}
@@ -44,8 +47,25 @@ started b n l m = beginFresh (fresh b n l m (replicate (3 * m) 7) (replicate (st
 abbrev p3 : List Ask
 p3 = write 1 0 2 [] ∷ write 2 4 1 [] ∷ write 3 10 4 [] ∷ write 4 6 1 [] ∷ write 5 11 2 [] ∷ write 6 7 1 [] ∷ write 7 9 1 [] ∷ []
 
+abbrev device3 : Device
+device3 = record {
+  pages = 16;
+  slots = 16;
+  table = 0 ∷ 1 ∷ none ∷ none ∷ 2 ∷ none ∷ 7 ∷ 10 ∷ none ∷ 11 ∷ 3 ∷ 8 ∷ 9 ∷ 6 ∷ replicate 18 none;
+  fills = 12 ∷ 0 ∷ 0 ∷ 0 ∷ [];
+  spare = 0 ∷ 1 ∷ 4 ∷ 10 ∷ 11 ∷ 12 ∷ 13 ∷ 6 ∷ 11 ∷ 12 ∷ 7 ∷ 9 ∷ replicate 52 none;
+  reserve = 3;
+  last = kept 7;
+}
+
 abbrev sound3 : Lent
-sound3 = run p3 (started 4 16 32 16) .state
+sound3 = wordsOf device3
+
+-- every word of a state
+abbrev wordsIn : Lent → List ℕ
+wordsIn s =
+    s .head .blocks ∷ s .head .pages ∷ s .head .logical ∷ s .head .slots ∷ s .head .used ∷ s .head .reserve ∷ s .head .last .number
+    ∷ (s .extentWords ++ s .blockWords ++ s .spare)
 
 abbrev blank : List Cell
 blank = replicate 64 erased
@@ -96,12 +116,13 @@ over-the-edge =
 
 pub record Met : Type 0 where
   -- demand 1: each refusal is given somewhere, and a call is accepted
-  pub each-given : refusals ≡ 1 ∷ 2 ∷ 3 ∷ 4 ∷ 5 ∷ 6 ∷ 7 ∷ 8 ∷ 0 ∷ []
+  pub each-given : sameBy eqb refusals (1 ∷ 2 ∷ 3 ∷ 4 ∷ 5 ∷ 6 ∷ 7 ∷ 8 ∷ 0 ∷ []) ≡ true
   -- demand 2: an accepted fresh on words that held something else, and a page that is programmed twice, its block erased in between
   pub fresh-accepted : fresh 3 1 1 1 (replicate 3 7) (replicate (stride * 3) 7) (replicate 3 7) .refusal ≡ 0
   pub page-again : trace (write 1 0 1 (10 ∷ []) ∷ write 2 0 1 (20 ∷ []) ∷ reclaim ∷ write 3 0 1 (30 ∷ []) ∷ reclaim ∷ write 4 0 1 (40 ∷ []) ∷ []) (started 3 1 1 1)
       ≡ Op.program 0 10 ∷ Op.program 1 20 ∷ Op.erase 0 ∷ Op.program 2 30 ∷ Op.erase 1 ∷ Op.program 0 40 ∷ []
-  -- demands 2 and 3 and the double refund, from a sound state on flash that is erased from each fill on
+  -- demands 2 and 3 and the double refund, from a sound state on flash that is erased from each fill on: the one that P3 leaves
+  pub is-left : sameBy eqb (wordsIn (run p3 (started 4 16 32 16) .state)) (wordsIn sound3) ≡ true
   pub is-shaped : shaped sound3 ≡ true
   pub is-sound : sound sound3 ≡ true
   pub is-erased : ErasedFromFill sound3 blank
@@ -130,11 +151,12 @@ pub record Met : Type 0 where
 pub met : Met
 unfolding opened
     programs copies toDo ops does doing marks marking shown reads see step run begin trace beginFresh
-    staleOf until times repeats noted once
+    staleOf until times repeats noted once sameBy
 met = record {
   each-given = refl;
   fresh-accepted = refl;
   page-again = refl;
+  is-left = refl;
   is-shaped = refl;
   is-sound = refl;
   is-erased = record { whole = refl; blank = λ b o h k i. replicate-at Cell.erased 64 (b * 16 + o) };

@@ -1,5 +1,6 @@
--- How a case of document 01 is written down and run: the sizes of a fresh device, requests before it, and what is then looked at, each with what must come out.
-use Prim.Native.Nat.{ℕ, _+_, _*_}
+-- How the cases of document 01 are written down and run: a table of rows. A row begins on a fresh device or where an earlier row ended, as "P4: P3, .." does; requests
+-- follow, and what is then looked at, each with what must come out.
+use Prim.Native.Nat.{ℕ, _*_}
 use mathlib.Core.Bool.{Bool, true, false, _&&_}
 use mathlib.Core.List.{List, [], _∷_, _++_, map}
 use lib.Dec.{eqb}
@@ -23,11 +24,14 @@ pub record Expect : Type 0 where
 abbrev pub expect : Look → List ℕ → Expect
 expect a m = record { look = a; must = m }
 
+pub data From : Type 0 where
+  -- a fresh device of B, N, L and M
+  anew : ℕ → ℕ → ℕ → ℕ → From
+  -- where that row of the table ended, counted from 1
+  row : ℕ → From
+
 pub record Case : Type 0 where
-  pub blocks : ℕ
-  pub pages : ℕ
-  pub logical : ℕ
-  pub slots : ℕ
+  pub from : From
   pub before : List Call
   pub expects : List Expect
 
@@ -56,37 +60,44 @@ unfoldable pub afterAll : List Call → Lent → Lent
 afterAll [] s = s
 afterAll (c ∷ cs) s = afterAll cs (call c s .after)
 
--- what comes out, step by step
+-- what comes out, step by step, and the state that is left
 unfoldable pub seen : List Expect → Lent → List (List ℕ)
 seen [] s = []
 seen (x ∷ xs) s = lookAt (x .look) s ∷ seen xs (next (x .look) s)
 
--- a fresh device of the case's sizes, in words that held something else
-unfoldable pub start : Case → Lent
-start c =
-    fresh (c .blocks) (c .pages) (c .logical) (c .slots)
-    (replicate (3 * c .slots) 7) (replicate (stride * c .blocks) 7) (replicate (c .blocks * c .pages) 7) .after
+unfoldable pub left : List Expect → Lent → Lent
+left [] s = s
+left (x ∷ xs) s = left xs (next (x .look) s)
 
-unfoldable pub comes : Case → List (List ℕ)
-comes c = seen (c .expects) (afterAll (c .before) (start c))
+-- a fresh device, in words that held something else
+unfoldable pub start : ℕ → ℕ → ℕ → ℕ → Lent
+start b n l m = fresh b n l m (replicate (3 * m) 7) (replicate (stride * b) 7) (replicate (b * n) 7) .after
 
-unfoldable pub musts : Case → List (List ℕ)
-musts c = map (λ x. x .must) (c .expects)
+-- where a row begins, if those before it ended so
+unfoldable pub begun : From → List Lent → Lent
+begun (From.anew b n l m) ended = start b n l m
+begun (From.row k) ended = getD (start 0 0 0 0 ∷ ended) k (start 0 0 0 0)
+
+-- what comes out of each row, and what must
+unfoldable pub comesFrom : List Case → List Lent → List (List (List ℕ))
+comesFrom [] ended = []
+comesFrom (c ∷ cs) ended =
+    let s = afterAll (c .before) (begun (c .from) ended) in
+    seen (c .expects) s ∷ comesFrom cs (ended ++ left (c .expects) s ∷ [])
+
+unfoldable pub comes : List Case → List (List (List ℕ))
+comes cs = comesFrom cs []
+
+unfoldable pub musts : List Case → List (List (List ℕ))
+musts cs = map (λ c. map (λ x. x .must) (c .expects)) cs
 
 -- ---- the test
 
-unfoldable pub same : List ℕ → List ℕ → Bool
-same [] [] = true
-same [] (y ∷ ys) = false
-same (x ∷ xs) [] = false
-same (x ∷ xs) (y ∷ ys) = eqb x y && same xs ys
-
-unfoldable pub sames : List (List ℕ) → List (List ℕ) → Bool
-sames [] [] = true
-sames [] (y ∷ ys) = false
-sames (x ∷ xs) [] = false
-sames (x ∷ xs) (y ∷ ys) = same x y && sames xs ys
+unfoldable pub sameBy : {A : Type 0} → (A → A → Bool) → List A → List A → Bool
+sameBy t [] [] = true
+sameBy t [] (y ∷ ys) = false
+sameBy t (x ∷ xs) [] = false
+sameBy t (x ∷ xs) (y ∷ ys) = t x y && sameBy t xs ys
 
 unfoldable pub holds : List Case → Bool
-holds [] = true
-holds (c ∷ cs) = sames (comes c) (musts c) && holds cs
+holds cs = sameBy (sameBy (sameBy eqb)) (comes cs) (musts cs)

@@ -1,12 +1,12 @@
--- P1 to P12 of document 01: one table, and one statement about the definitions, which holds by computing. MarkedRows.antt has each row's equation.
+-- P1 to P12 of document 01: one table, and one statement about the definitions, which holds by computing. MarkedRows.antt has it as an equation.
 use Prim.Native.Nat.{ℕ}
 use mathlib.Core.Bool.{true}
 use mathlib.Core.Path.{_≡_, refl}
-use mathlib.Core.List.{List, [], _∷_, _++_}
+use mathlib.Core.List.{List, [], _∷_}
 use lib.ListN.{replicate}
 use Rattle.rules.specs.Calls.{Call}
 use Rattle.rules.specs.Opened.{opened}
-use Rattle.rules.specs.Cases.{Case, Expect, Look, expect, answerOf, lookAt, next, afterAll, seen, start, comes, musts, same, sames, holds}
+use Rattle.rules.specs.Cases.{Case, Expect, Look, From, expect, answerOf, lookAt, next, afterAll, seen, left, start, begun, comesFrom, comes, musts, sameBy, holds}
 
 -- ---- the requests of the cases, with answer buffers of 48 words
 
@@ -35,81 +35,61 @@ report f l s = answer Call.report (0 ∷ f ∷ l ∷ s ∷ [])
 abbrev reclaim : List ℕ → Expect
 reclaim must = answer (Call.reclaim room48) must
 
+abbrev case : From → List Call → List Expect → Case
+case from before expects = record { from = from; before = before; expects = expects }
+
 -- "Unless said, B=4, N=16, L=32, M=16"
-abbrev usual : List Call → List Expect → Case
-usual before expects = record { blocks = 4; pages = 16; logical = 32; slots = 16; before = before; expects = expects }
-
-abbrev p3 : List Call
-p3 = write 1 0 2 ∷ write 2 4 1 ∷ write 3 10 4 ∷ write 4 6 1 ∷ write 5 11 2 ∷ write 6 7 1 ∷ write 7 9 1 ∷ []
-
-abbrev p6 : List Call
-p6 = p3 ++ Call.reclaim room48 ∷ []
-
-abbrev p8 : List Call
-p8 = p6 ++ write 8 0 16 ∷ []
+abbrev usual : From
+usual = From.anew 4 16 32 16
 
 -- ---- the table
 
 abbrev pub marked : List Case
 marked =
     -- P1
-    usual [] (theReserve 3 ∷ report 48 0 0 ∷ [])
+    case usual [] (theReserve 3 ∷ report 48 0 0 ∷ [])
     -- P2
-    ∷ usual [] (answer (write 1 0 2) (0 ∷ 1 ∷ 0 ∷ 0 ∷ 2 ∷ []) ∷ [])
+    ∷ case usual [] (answer (write 1 0 2) (0 ∷ 1 ∷ 0 ∷ 0 ∷ 2 ∷ []) ∷ [])
     -- P3
-    ∷ usual p3 (
+    ∷ case usual (write 1 0 2 ∷ write 2 4 1 ∷ write 3 10 4 ∷ write 4 6 1 ∷ write 5 11 2 ∷ write 6 7 1 ∷ write 7 9 1 ∷ []) (
     theMap (0 ∷ 0 ∷ 2 ∷ 4 ∷ 2 ∷ 1 ∷ 6 ∷ 7 ∷ 1 ∷ 7 ∷ 10 ∷ 1 ∷ 9 ∷ 11 ∷ 1 ∷ 10 ∷ 3 ∷ 1 ∷ 11 ∷ 8 ∷ 2 ∷ 13 ∷ 6 ∷ 1 ∷ [])
     ∷ report 36 10 2 ∷ [])
     -- P4
-    ∷ usual p3 (report 36 10 2 ∷ answer (write 7 9 1) (4 ∷ 0 ∷ []) ∷ report 36 10 2 ∷ [])
+    ∷ case (From.row 3) [] (answer (write 7 9 1) (4 ∷ 0 ∷ []) ∷ report 36 10 2 ∷ [])
     -- P5
-    ∷ usual p3 (
+    ∷ case (From.row 3) [] (
     answer (Call.read 9 6 room48)
     (0 ∷ 5 ∷ 9 ∷ 11 ∷ 1 ∷ 10 ∷ 3 ∷ 1 ∷ 11 ∷ 8 ∷ 2 ∷ 13 ∷ 6 ∷ 1 ∷ 14 ∷ 4294967295 ∷ 1 ∷ []) ∷ [])
     -- P6
-    ∷ usual p3 (
+    ∷ case (From.row 3) [] (
     reclaim (0 ∷ 10 ∷ 0 ∷ 1 ∷ 2 ∷ 3 ∷ 6 ∷ 7 ∷ 8 ∷ 9 ∷ 10 ∷ 11 ∷ [])
     ∷ theMap (0 ∷ 48 ∷ 2 ∷ 4 ∷ 50 ∷ 1 ∷ 6 ∷ 53 ∷ 1 ∷ 7 ∷ 56 ∷ 1 ∷ 9 ∷ 57 ∷ 1 ∷ 10 ∷ 51 ∷ 1 ∷ 11 ∷ 54 ∷ 2 ∷ 13 ∷ 52 ∷ 1 ∷ [])
     ∷ theReserve 0 ∷ report 38 10 0 ∷ [])
     -- P7
-    ∷ usual p6 (reclaim (8 ∷ 0 ∷ []) ∷ [])
+    ∷ case (From.row 6) [] (reclaim (8 ∷ 0 ∷ []) ∷ [])
     -- P8
-    ∷ usual p6 (answer (write 8 0 16) (0 ∷ 1 ∷ 0 ∷ 16 ∷ 16 ∷ []) ∷ theMap (0 ∷ 16 ∷ 16 ∷ []) ∷ report 22 16 10 ∷ [])
+    ∷ case (From.row 6) [] (answer (write 8 0 16) (0 ∷ 1 ∷ 0 ∷ 16 ∷ 16 ∷ []) ∷ theMap (0 ∷ 16 ∷ 16 ∷ []) ∷ report 22 16 10 ∷ [])
     -- P9
-    ∷ usual p8 (answer (trim 9 5 1) (0 ∷ []) ∷ theMap (0 ∷ 16 ∷ 5 ∷ 6 ∷ 22 ∷ 10 ∷ []) ∷ report 22 15 11 ∷ [])
+    ∷ case (From.row 8) [] (answer (trim 9 5 1) (0 ∷ []) ∷ theMap (0 ∷ 16 ∷ 5 ∷ 6 ∷ 22 ∷ 10 ∷ []) ∷ report 22 15 11 ∷ [])
     -- P10
-    ∷ record {
-      blocks = 4;
-      pages = 16;
-      logical = 32;
-      slots = 1;
-      before = write 1 0 16 ∷ [];
-      expects = answer (trim 2 5 1) (6 ∷ []) ∷ answer (trim 2 0 16) (0 ∷ []) ∷ [];
-    }
+    ∷ case (From.anew 4 16 32 1) (write 1 0 16 ∷ []) (answer (trim 2 5 1) (6 ∷ []) ∷ answer (trim 2 0 16) (0 ∷ []) ∷ [])
     -- P11
-    ∷ usual (write 1 0 10 ∷ []) (
+    ∷ case usual (write 1 0 10 ∷ []) (
     answer (write 2 10 16) (0 ∷ 2 ∷ 10 ∷ 10 ∷ 6 ∷ 16 ∷ 16 ∷ 10 ∷ [])
     ∷ theMap (0 ∷ 0 ∷ 16 ∷ 16 ∷ 16 ∷ 10 ∷ []) ∷ [])
     -- P12
-    ∷ record {
-      blocks = 3;
-      pages = 1;
-      logical = 1;
-      slots = 1;
-      before = [];
-      expects =
-          answer (write 1 0 1) (0 ∷ 1 ∷ 0 ∷ 0 ∷ 1 ∷ [])
-          ∷ answer (write 2 0 1) (0 ∷ 1 ∷ 0 ∷ 1 ∷ 1 ∷ [])
-          ∷ answer (write 3 0 1) (5 ∷ 0 ∷ [])
-          ∷ reclaim (0 ∷ 0 ∷ [])
-          ∷ theReserve 0
-          ∷ answer (write 3 0 1) (0 ∷ 1 ∷ 0 ∷ 2 ∷ 1 ∷ []) ∷ [];
-    }
+    ∷ case (From.anew 3 1 1 1) [] (
+    answer (write 1 0 1) (0 ∷ 1 ∷ 0 ∷ 0 ∷ 1 ∷ [])
+    ∷ answer (write 2 0 1) (0 ∷ 1 ∷ 0 ∷ 1 ∷ 1 ∷ [])
+    ∷ answer (write 3 0 1) (5 ∷ 0 ∷ [])
+    ∷ reclaim (0 ∷ 0 ∷ [])
+    ∷ theReserve 0
+    ∷ answer (write 3 0 1) (0 ∷ 1 ∷ 0 ∷ 2 ∷ 1 ∷ []) ∷ [])
     ∷ []
 
 -- ---- the statement
 
 pub marked-holds : holds marked ≡ true
 unfolding opened
-    answerOf lookAt next afterAll seen start comes musts same sames holds
+    answerOf lookAt next afterAll seen left start begun comesFrom comes musts sameBy holds
 marked-holds = refl
