@@ -12,7 +12,7 @@ use borrow.Author.Tests.{eq-eqb, ne-eqb, lt-ltb, le-ltb}
 use borrow.Rule.Slice.PartMut.{midOf, putMid}
 use lib.Dec.{eqb, ltb}
 use lib.ListN.{length, getD, set, replicate, length-replicate, getD-replicate}
-use lib.Seq.{sets, length-sets}
+use lib.Seq.{sets}
 use Rattle.rules.specs.Counting.{one, sum, count}
 use Rattle.rules.specs.Extents.{none, slot, slotsFrom}
 use Rattle.rules.specs.declared.Extent.{Extent}

@@ -26,7 +26,8 @@ use Rattle.laws.specs.Order.{puts-all, length-targets}
 use Rattle.laws.specs.Lines.{trimmed-lines, trimmed-other}
 use Rattle.laws.specs.Gains.{reclaim-all}
 use Rattle.laws.specs.States.{device-lines, device-blocks, words-device, words-valid}
-use Rattle.laws.specs.Kept.{refuse-none, refusal-taken, keeps, device-storable, device-is, accepted-in, accepted-sound}
+use Rattle.laws.specs.Refused.{refuse-none}
+use Rattle.laws.specs.Kept.{refusal-taken, keeps, device-storable, device-is, accepted-in, accepted-sound}
 use Rattle.demands.specs.Flash.{Cell}
 use Rattle.demands.specs.Host.{Ask, ops, doing, marking, World, step, run, begin}
 use Rattle.demands.specs.Requests.{carries, isWrite, numberOf, startOf, countOf, again}

@@ -26,7 +26,8 @@ use Rattle.demands.specs.Shows.{see-hole, Clean}
 use Rattle.laws.specs.Sound.{Sizes, Storable}
 use Rattle.laws.specs.Shapes.{sizes-true, pages-fit}
 use Rattle.laws.specs.States.{device-lines, device-blocks, device-fill, words-fill}
-use Rattle.laws.specs.Kept.{refuse-none, device-storable, device-is}
+use Rattle.laws.specs.Refused.{refuse-none}
+use Rattle.laws.specs.Kept.{device-storable, device-is}
 use Rattle.laws.specs.Makes.{make-leaves, make-sound}
 use Rattle.demands.specs.Host.{reads, ErasedFromFill, begin}
 use Rattle.demands.specs.Demand2.{beginFresh}

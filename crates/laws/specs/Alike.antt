@@ -1,5 +1,5 @@
 -- Placement reads no line of the table: devices that are alike but for their tables place alike. So a write may cut its range out first.
-use Prim.Native.Nat.{ℕ, suc, _+_, _-_, _/_, _≤_, _<_}
+use Prim.Native.Nat.{ℕ, suc, _+_, _/_, _≤_, _<_}
 use mathlib.Core.Path.{_≡_, refl, sym, ap, ap₂, _∙_, subst}
 use mathlib.Core.List.{List, [], _∷_}
 use native.Mathlib.Omega.{arith}
@@ -14,7 +14,6 @@ use Rattle.rules.specs.Placement.{putAt, putsAt, placesAt, targets, puts, place
 use Rattle.rules.specs.Request.{withTable, trimmed}
 use Rattle.laws.specs.Sums.{count-none}
 use Rattle.laws.specs.Device.{SoundDevice, none-block}
-use Rattle.laws.specs.Balance
 use Rattle.laws.specs.Lines.{trimmed-sound, trimmed-in}
 use Rattle.laws.specs.Placed.{puts-table}
 use Rattle.laws.specs.Order.{length-targets, length-placed, targets-open, targets-same}

@@ -6,7 +6,7 @@ use native.Mathlib.Omega.{arith}
 use native.Mathlib.Nat.{suc-mul}
 use lib.Arith.{digits-mod}
 use lib.ListN.{length, length-map}
-use Rattle.rules.specs.Extents.{none, extent, runs}
+use Rattle.rules.specs.Extents.{none, runs}
 use Rattle.rules.specs.Device.{Device, blocks, lines, at, named, stale, extents}
 use Rattle.rules.specs.Placement.{putsAt, placesAt}
 use Rattle.rules.specs.Request.{withTable, trimmed}

@@ -1,12 +1,12 @@
 -- What it says that a call is accepted, that an accepted call leaves a storable device, and that a refused one leaves everything.
 use Prim.Native.Nat.{ℕ, _+_, _-_, _*_, _≤_, _<_}
-use mathlib.Core.Bool.{Bool, true, false, not, _||_}
+use mathlib.Core.Bool.{true, false, _||_}
 use mathlib.Core.Path.{_≡_, refl, sym, ap, _∙_}
 use mathlib.Core.List.{List}
 use mathlib.Core.Logic.{by-cases}
 use native.Mathlib.Omega.{arith}
 use native.Mathlib.Decide.{ℕ-discrete}
-use borrow.Author.Tests.{eqb-false, ltb-false, leb-false, not-false, eq-eqb, ne-eqb, le-ltb, lt-leb}
+use borrow.Author.Tests.{eqb-false, ltb-false, leb-false, eq-eqb, ne-eqb, le-ltb, lt-leb}
 use lib.Dec.{eqb, ltb, leb}
 use lib.ListN.{length}
 use Rattle.rules.specs.Lent.{Lent}
@@ -17,10 +17,10 @@ use Rattle.rules.specs.Placement.{targets, puts, pieces}
 use Rattle.rules.specs.Request.{applied, judged, withTable, numbered, written, trimmed}
 use Rattle.rules.specs.Reclaim.{victim, sources, reclaimed}
 use Rattle.rules.specs.Read.{found}
-use Rattle.rules.specs.Answers.{refuse}
-use Rattle.rules.specs.Calls.{Call, outside, tooMany, writeRefusal, trimRefusal, readRefusal, reclaimRefusal, refusal, leaves, refused, tested, verdict, acceptedOn, call}
+use Rattle.rules.specs.Calls.{Call, outside, tooMany, writeRefusal, trimRefusal, readRefusal, reclaimRefusal, refusal, leaves, refused, verdict, acceptedOn, call}
 use Rattle.rules.specs.declared.Refusal.{Refusal}
 use Rattle.laws.specs.Bools.{or-split}
+use Rattle.laws.specs.Refused.{refuse-none, refuse-pass, tested-none}
 use Rattle.laws.specs.Device.{SoundDevice}
 use Rattle.laws.specs.Placed.{puts-pages, puts-slots}
 use Rattle.laws.specs.Order.{puts-all}
@@ -31,32 +31,7 @@ use Rattle.laws.specs.Balance.{balance′}
 use Rattle.laws.specs.States.{device-blocks, storable-shaped, storable-sound, sound-iff}
 use Rattle.laws.specs.Sound.{Sizes, Storable}
 
--- ---- the refusals, one after the other
-
--- no number is 0: where nothing is refused, the test fails and the later tests refuse nothing
-pub refuse-none : (t : Bool) (r : Refusal) (later : ℕ) → refuse t r later ≡ 0 → (t ≡ false) × (later ≡ 0)
-unfolding refuse
-refuse-none false r later e = (refl, e)
-refuse-none true Refusal.Shape later e = absurd (omega arith)
-refuse-none true Refusal.Damaged later e = absurd (omega arith)
-refuse-none true Refusal.Range later e = absurd (omega arith)
-refuse-none true Refusal.Applied later e = absurd (omega arith)
-refuse-none true Refusal.NoPages later e = absurd (omega arith)
-refuse-none true Refusal.NoNodes later e = absurd (omega arith)
-refuse-none true Refusal.OutShort later e = absurd (omega arith)
-refuse-none true Refusal.NothingStale later e = absurd (omega arith)
-
-pub refuse-pass : (t : Bool) (r : Refusal) (later : ℕ) → t ≡ false → later ≡ 0 → refuse t r later ≡ 0
-unfolding refuse
-refuse-pass t r later e z = rw (e, z)
-
--- 1 and 2, and then the refusals of a call's own
-pub tested-none : (own : Device → ℕ) (s : Lent) → tested own s ≡ 0 → (shaped s ≡ true) × (sound s ≡ true) × (own (deviceOf s) ≡ 0)
-unfolding tested
-tested-none own s e =
-    let a = refuse-none (not (shaped s)) Refusal.Shape _ e in
-    let b = refuse-none (not (sound s)) Refusal.Damaged _ (a .1) in
-    (not-false (shaped s) (a .0), not-false (sound s) (b .0), b .1)
+-- ---- the tests, one by one
 
 -- 3
 pub record InRange (l n : ℕ) (d : Device) : Type 0 where
@@ -257,5 +232,3 @@ accepted-sound c s e =
     let d = leaves c (deviceOf s) in
     let g : Storable d = keeps c (deviceOf s) (device-storable s (a .shape) (a .whole)) (a .plainly) in
     (ap shaped (a .after) ∙ storable-shaped d g, ap sound (a .after) ∙ storable-sound d g)
-
--- ---- each rule allows one outcome: that of `call` for the five calls on a lent state, that of `fresh` for the sixth

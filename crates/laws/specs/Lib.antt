@@ -33,6 +33,7 @@ pub mod Records
 pub mod States
 pub mod Calls
 pub mod Encoded
+pub mod Refused
 pub mod Kept
 pub mod Views
 pub mod Makes

@@ -2,7 +2,6 @@
 use Prim.Native.Nat.{ℕ, zero, suc, _+_, _*_, _/_, _≤_, _<_}
 use mathlib.Core.Path.{_≡_, refl, sym, ap, _∙_}
 use mathlib.Core.List.{List, [], _∷_}
-use mathlib.Core.Bool.{not}
 use mathlib.Core.Logic.{by-cases}
 use native.Mathlib.Omega.{arith}
 use native.Mathlib.Decide.{decLt, ℕ-discrete}
@@ -10,7 +9,7 @@ use lib.Arith.{digits-lt, digits-div}
 use lib.ListN.{length, getD, set, replicate, length-set, List·getD-eq-default}
 use lib.Seq.{sets, getD-set-same, getD-set-other}
 use Rattle.rules.specs.Extents.{none}
-use Rattle.rules.specs.Device.{Device, blocks, lines, at, fill, label, room, mapped, free}
+use Rattle.rules.specs.Device.{Device, blocks, lines, at, fill, label, room, free}
 use Rattle.rules.specs.Placement.{putAt, putsAt, placesAt}
 use Rattle.laws.specs.Sums.{sum-change}
 use Rattle.laws.specs.Device.{Home, SoundDevice, Blank, same-block, same-offset, page-lt, offset-lt}

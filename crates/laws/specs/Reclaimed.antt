@@ -12,8 +12,8 @@ use lib.ListN.{length, getD, set, length-set, length-map, List·getD-map}
 use lib.Seq.{getD-set-same, getD-set-other}
 use Rattle.rules.specs.Counting.{count, picks}
 use Rattle.rules.specs.Extents.{none}
-use Rattle.rules.specs.Device.{Device, blocks, lines, at, fill, label, mapped, named, valid, live}
-use Rattle.rules.specs.Reclaim.{victim, sources, goes, moved, reclaimedAt, reclaimed}
+use Rattle.rules.specs.Device.{Device, blocks, lines, at, fill, label, named, valid, live}
+use Rattle.rules.specs.Reclaim.{sources, goes, moved, reclaimedAt}
 use Rattle.laws.specs.Sums.{count-rise}
 use Rattle.laws.specs.Picks.{length-picks, picks-at, Picked, picked}
 use Rattle.laws.specs.Cells.{block-le, map-at, swept, length-swept, swept-in, swept-rest, swept-gone, swept-other}

@@ -13,9 +13,7 @@ use lib.Dec.{eqb, ltb}
 use lib.ListN.{length, getD, set}
 use lib.Seq.{sets}
 use Rattle.rules.specs.Counting.{first, tabulate}
-use Rattle.rules.specs.Extents.{none, extent, joinable, join}
-use Rattle.rules.specs.Device.{blocks, lines, fill, room}
-use Rattle.rules.specs.Placement.{pieces}
+use Rattle.rules.specs.Extents.{extent, joinable, join}
 use Rattle.rules.specs.declared.Extent.{Extent}
 use Rattle.laws.specs.Bools.{cases, never}
 use Rattle.laws.specs.Runs.{Joined, joinable-true, joined-true, join-joined, join-apart}

@@ -13,7 +13,8 @@ use Rattle.rules.specs.Device.{Device, deviceOf, wordsOf}
 use Rattle.rules.specs.Answers.{Outcome}
 use Rattle.rules.specs.Calls.{Call, refusal, counts, leaves, lists, over, refused, tested, acceptedOn, call}
 use Rattle.rules.specs.Views.{View, view, reporting, reading}
-use Rattle.laws.specs.Kept.{tested-none, device-is}
+use Rattle.laws.specs.Refused.{tested-none}
+use Rattle.laws.specs.Kept.{device-is}
 
 -- ---- of any view: what 1, 2 and its own refusals give decides
 

@@ -1,8 +1,7 @@
 -- Each of the six calls: it asks nothing, answers as demand 1 says, and its contract allows one result. What is said here is said of what the checker asks of
 -- a caller (`Asked`) and of a body (`Post`), so a contract that says less is refused here. Of the arguments a, and of the parameters at exit s, `.0` is the
 -- first and `.1` the others, in the order of the call's signature.
-use mathlib.Core.Path.{_≡_}
-use mathlib.Core.List.{List, []}
+use mathlib.Core.List.{[]}
 use contract.Lifetimes.{Lfts}
 use denote.Ref.{now}
 use denote.Triple.Clauses.{AtExit}
@@ -10,9 +9,6 @@ use borrow.Fn.Kinds.{Dens, endedOf}
 use Rattle.rules.specs.Lent.{Lent, lent}
 use Rattle.rules.specs.Answers.{Outcome, done, listed, counted}
 use Rattle.rules.specs.Calls.{Call, call, fresh}
-use Rattle.rules.specs.declared.Done.{Done}
-use Rattle.rules.specs.declared.Listed.{Listed}
-use Rattle.rules.specs.declared.Counted.{Counted}
 use Rattle.demands.specs.Demand1.{Answers, FreshAnswers}
 use Rattle.demands.specs.Proved.{demand-1}
 use Rattle.layer.specs.Told.{done-one, listed-one, counted-one}

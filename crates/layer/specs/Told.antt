@@ -1,41 +1,13 @@
 -- What an answer says tells it apart: two answers that say the same are equal.
 use Prim.Native.Nat.{ℕ}
-use mathlib.Core.Bool.{cond}
-use mathlib.Core.Path.{_≡_, refl, sym, ap, _∙_}
-use mathlib.Core.List.{List, [], _∷_}
-use native.Mathlib.Omega.{arith}
-use lib.Dec.{eqb}
+use mathlib.Core.Path.{_≡_, sym, ap}
+use mathlib.Core.List.{List}
 use lib.ListN.{getD}
-use Rattle.rules.specs.Answers.{number, Said, done, listed, counted}
-use Rattle.rules.specs.declared.Head.{Head}
-use Rattle.rules.specs.declared.Refusal.{Refusal}
+use Rattle.rules.specs.Answers.{Said, done, listed, counted}
 use Rattle.rules.specs.declared.Done.{Done}
 use Rattle.rules.specs.declared.Listed.{Listed}
 use Rattle.rules.specs.declared.Counted.{Counted}
-use Rattle.verdicts.specs.Refusals.{number-some}
-
--- ---- the numbers tell the refusals apart
-
-ofNumber : ℕ → Refusal
-ofNumber k =
-    cond (eqb k 1) Refusal.Shape (cond (eqb k 2) Refusal.Damaged (cond (eqb k 3) Refusal.Range (cond (eqb k 4) Refusal.Applied
-    (cond (eqb k 5) Refusal.NoPages (cond (eqb k 6) Refusal.NoNodes (cond (eqb k 7) Refusal.OutShort Refusal.NothingStale))))))
-
-back : (r : Refusal) → ofNumber (number r) ≡ r
-unfolding ofNumber
-back Refusal.Shape = refl
-back Refusal.Damaged = refl
-back Refusal.Range = refl
-back Refusal.Applied = refl
-back Refusal.NoPages = refl
-back Refusal.NoNodes = refl
-back Refusal.OutShort = refl
-back Refusal.NothingStale = refl
-
-pub number-one : (r t : Refusal) → number r ≡ number t → r ≡ t
-number-one r t e = sym (back r) ∙ ap ofNumber e ∙ back t
-
--- ---- and so do what answers say
+use Rattle.laws.specs.Refused.{number-some, number-one}
 
 first : List ℕ → ℕ
 first xs = getD xs 0 0

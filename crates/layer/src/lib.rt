@@ -27,7 +27,7 @@ pub fn fresh(
     if !state::shape_ok(given, ext.len(), blk.len(), spare.len()) {
         return Done::Refused(Refusal::Shape, given);
     }
-    accepted::make_fresh(blocks, pages, logical, slots, ext, blk, spare)
+    makes::make_fresh(blocks, pages, logical, slots, ext, blk, spare)
 }
 
 pub fn report(h: Head, ext: &[u32], blk: &[u32], spare: &[u32]) -> Counted
@@ -37,7 +37,7 @@ pub fn report(h: Head, ext: &[u32], blk: &[u32], spare: &[u32]) -> Counted
     if let Verdict::Refused(r) = v {
         return Counted::Refused(r, h);
     }
-    accepted::count_pages(h, ext, blk, spare)
+    views::count_pages(h, ext, blk, spare)
 }
 
 pub fn read(
@@ -61,7 +61,7 @@ pub fn read(
     if let Verdict::Refused(r) = w {
         return Listed::Refused(r, h);
     }
-    let k = accepted::list_pieces(h, ext, blk, spare, first, l, n, out);
+    let k = views::list_pieces(h, ext, blk, spare, first, l, n, out);
     Listed::Accepted(k, h)
 }
 
@@ -85,7 +85,7 @@ pub fn trim(
     if let Verdict::Refused(r) = w {
         return Done::Refused(r, h);
     }
-    let used = accepted::cut_range(h, ext, blk, spare, sides, l, n);
+    let used = changes::cut_range(h, ext, blk, spare, sides, l, n);
     let mut g = h;
     g.used = used;
     g.last = words::kept(number);
@@ -114,7 +114,7 @@ pub fn write(
     if let Verdict::Refused(r) = w {
         return Listed::Refused(r, h);
     }
-    accepted::place_pages(h, ext, blk, spare, m, number, l, n, out)
+    changes::place_pages(h, ext, blk, spare, m, number, l, n, out)
 }
 
 pub fn reclaim(
@@ -136,5 +136,5 @@ pub fn reclaim(
     if let Verdict::Refused(r) = w {
         return Listed::Refused(r, h);
     }
-    accepted::empty_victim(h, ext, blk, spare, victim, out)
+    changes::empty_victim(h, ext, blk, spare, victim, out)
 }

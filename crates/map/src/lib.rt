@@ -3,7 +3,7 @@
 ghost use mathlib.Core.Path.{_≡_};
 ghost use Prim.Native.Nat.{_+_, _*_, _<_, _≤_, _^_};
 ghost use mathlib.Core.List.{_∷_, _++_};
-ghost use lib.ListN.{length, take, drop, set};
+ghost use lib.ListN.{length, take, drop};
 ghost use Rattle.rules.specs.Extents.{extent, end, slot, slotsFrom};
 ghost use Rattle.laws.specs.Counts.{startsBefore};
 ghost use Rattle.map.specs.Sound.{SoundMap};

@@ -1,6 +1,6 @@
 -- The block records after a reclaim: the old reserve has the victim's valid pages and nothing else, and the victim nothing.
 use Prim.Native.Nat.{ℕ}
-use mathlib.Core.Path.{_≡_, ap, _∙_}
+use mathlib.Core.Path.{_≡_, _∙_}
 use mathlib.Core.List.{List}
 use native.Mathlib.Omega.{arith}
 use lib.ListN.{length}

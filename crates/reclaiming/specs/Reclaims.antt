@@ -2,19 +2,19 @@
 use Prim.Native.Nat.{ℕ, _+_, _-_, _*_, _/_, _%_, _<_, _≤_}
 use mathlib.Core.Bool.{Bool, true, false≢true}
 use mathlib.Core.Path.{_≡_, refl, sym, ap, _∙_}
-use mathlib.Core.List.{List, [], _∷_, _++_}
+use mathlib.Core.List.{List, [], _∷_}
 use mathlib.Core.Logic.{by-cases}
 use native.Mathlib.Omega.{arith}
 use native.Mathlib.Decide.{decLt, ℕ-discrete}
 use native.Mathlib.Nat.{mod-lt}
-use lib.ListN.{length, getD, take, drop, replicate, List·getD-append}
+use lib.ListN.{length, getD, take, drop, List·getD-append}
 use lib.Seq.{ext-getD, take-append-seam}
 use Rattle.rules.specs.Counting.{count, tabulate}
-use Rattle.rules.specs.Extents.{none, extent, end, lookup, slot, slotsFrom, flat}
+use Rattle.rules.specs.Extents.{none, extent, end, lookup, slot, slotsFrom}
 use Rattle.rules.specs.Blocks.{stride, fillWord, validWord, records}
 use Rattle.rules.specs.declared.BlockRecord.{BlockRecord}
 use Rattle.rules.specs.Calls.{over}
-use Rattle.rules.specs.Device.{Device, blocks, lines, at, fill, named, valid, extents, wordsOf}
+use Rattle.rules.specs.Device.{Device, blocks, lines, at, fill, named, valid, extents}
 use Rattle.rules.specs.Reclaim.{sources, goes, moved, reclaimedAt}
 use Rattle.rules.specs.declared.Extent.{Extent}
 use Rattle.laws.specs.Bools.{cases, same-test}

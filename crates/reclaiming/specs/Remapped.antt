@@ -1,5 +1,5 @@
 -- The map after a reclaim: each extent moved whole, and joined wherever rule 2 asks; the joining from the left.
-use Prim.Native.Nat.{ℕ, _+_, _*_, _-_, _/_, _%_, _<_}
+use Prim.Native.Nat.{ℕ, _+_, _*_, _/_, _%_, _<_}
 use mathlib.Core.Bool.{Bool, true, false, cond}
 use mathlib.Core.Path.{_≡_, refl, sym, ap, _∙_}
 use mathlib.Core.List.{List, [], _∷_, _++_, map}
@@ -9,9 +9,9 @@ use native.Mathlib.Decide.{ℕ-discrete}
 use native.Mathlib.Nat.{mod-lt}
 use borrow.Author.Tests.{eq-eqb, ne-eqb}
 use lib.Dec.{eqb}
-use lib.ListN.{length, getD, replicate}
+use lib.ListN.{getD}
 use Rattle.rules.specs.Counting.{count}
-use Rattle.rules.specs.Extents.{extent, joinable, join, flat}
+use Rattle.rules.specs.Extents.{extent, joinable, join}
 use Rattle.rules.specs.declared.Extent.{Extent}
 use Rattle.laws.specs.Bools.{cases, never, same-test}
 use Rattle.laws.specs.Cells.{map-same}

@@ -7,9 +7,9 @@ use native.Mathlib.Omega.{arith}
 use borrow.Author.Tests.{lt-ltb, le-ltb, ltb-true}
 use borrow.Rule.Slice.PartMut.{midOf, putMid}
 use lib.Dec.{ltb}
-use lib.ListN.{length, getD, set, replicate, length-drop, length-set}
+use lib.ListN.{length, getD, set, replicate, length-drop}
 use lib.Seq.{getD-set-same, getD-set-other}
-use Rattle.rules.specs.Counting.{one, count}
+use Rattle.rules.specs.Counting.{count}
 use Rattle.rules.specs.Extents.{none, extent, end, joinable, slot, putSlot, slotsFrom, flat}
 use Rattle.rules.specs.declared.Extent.{Extent}
 use Rattle.laws.specs.Bools.{and-split}

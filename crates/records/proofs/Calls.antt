@@ -6,7 +6,7 @@ use base.Logic.{emp}
 use contract.Monad.{fact}
 use contract.Lifetimes.{Lfts}
 use denote.Ref.{now}
-use denote.Triple.Entry.{Args, Res}
+use denote.Triple.Entry.{Args}
 use denote.Triple.Clauses.{AtExit}
 use borrow.Fn.World.{World}
 use Rattle.rules.specs.Extents.{flat}

@@ -3,9 +3,9 @@ use Prim.Native.Nat.{ℕ, zero, suc, _+_, _*_, _≤_, _<_}
 use native.Mathlib.Omega.{arith}
 use mathlib.Core.Path.{_≡_, refl, ap, _∙_}
 use mathlib.Core.List.{List, [], _∷_}
-use lib.ListN.{length, getD, take, drop, set}
+use lib.ListN.{length, getD, take, drop}
 use Rattle.rules.specs.declared.Extent.{Extent}
-use Rattle.rules.specs.Extents.{extent, putSlot, flat}
+use Rattle.rules.specs.Extents.{putSlot, flat}
 use Rattle.laws.specs.Slots.{blank, flat-length}
 use Rattle.records.specs.Laid.{put, laidAt, laid, First}
 

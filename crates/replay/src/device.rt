@@ -7,7 +7,6 @@ use rules::Counted;
 use rules::Done;
 use rules::Head;
 use rules::Listed;
-use rules::Refusal;
 use words::kept;
 use words::sizes_only;
 

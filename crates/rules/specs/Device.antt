@@ -1,9 +1,9 @@
 -- The plain device: a table with one line per logical page in place of the extents, beside the fills, the labels, the reserve and the
 -- last request. Its three counts; and the way from lent words to it and back.
-use Prim.Native.Nat.{ℕ, zero, suc, _+_, _-_, _*_, _/_}
+use Prim.Native.Nat.{ℕ, _+_, _-_, _*_, _/_}
 use mathlib.Core.Bool.{Bool, not, cond, _&&_}
-use mathlib.Core.List.{List, []}
-use lib.Dec.{eqb, ltb}
+use mathlib.Core.List.{List}
+use lib.Dec.{eqb}
 use lib.ListN.{length, getD, replicate}
 use mathlib.Core.List.{_++_}
 use Rattle.rules.specs.Counting.{sum, count, tabulate, among}

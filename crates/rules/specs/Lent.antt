@@ -1,8 +1,6 @@
 -- What is lent: the head by value, and the words of the extents, of the blocks and of the spare areas.
-use Prim.Native.Nat.{ℕ, _+_, _*_, _/_, _%_}
-use mathlib.Core.Bool.{Bool}
+use Prim.Native.Nat.{ℕ, _/_, _%_}
 use mathlib.Core.List.{List}
-use lib.Dec.{ltb}
 use lib.ListN.{getD}
 use Rattle.rules.specs.Extents.{none, slot, slotsFrom}
 use Rattle.rules.specs.Blocks.{fillWord, validWord}

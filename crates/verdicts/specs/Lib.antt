@@ -3,3 +3,4 @@ pub mod Numbered
 pub mod Reading
 pub mod Trimming
 pub mod Reclaiming
+pub mod Accepts

@@ -10,8 +10,8 @@ use Rattle.rules.specs.Request.{applied, judged}
 use Rattle.rules.specs.Answers.{number, refuse}
 use Rattle.rules.specs.declared.Head.{Head}
 use Rattle.rules.specs.declared.Refusal.{Refusal}
-use Rattle.laws.specs.Kept.{refuse-none}
-use Rattle.verdicts.specs.Refusals.{told, firstOf, refuse-here, refuse-later, first-refuse, first-both, first-then}
+use Rattle.laws.specs.Refused.{refuse-here, refuse-later, refuse-none}
+use Rattle.verdicts.specs.Refusals.{told, firstOf, first-refuse, first-both, first-then}
 use Rattle.verdicts.specs.declared.Verdict.{Verdict}
 
 -- 4, or 0

@@ -1,19 +1,18 @@
 -- A read's verdict, from the tests that the code makes.
 use Prim.Native.Nat.{ℕ, _+_, _*_, _/_, _≤_, _<_}
 use mathlib.Core.Bool.{Bool, true, false, not, _||_}
-use mathlib.Core.Path.{_≡_, refl, sym, ap, ap₂, _∙_}
+use mathlib.Core.Path.{_≡_, sym, ap, ap₂, _∙_}
 use mathlib.Core.List.{List}
 use mathlib.Core.Logic.{by-cases}
 use native.Mathlib.Omega.{arith}
 use native.Mathlib.Decide.{decLt}
 use borrow.Author.Tests.{lt-ltb, le-ltb, ltb-false, eqb-false, le-leb, lt-leb, not-false}
 use lib.Dec.{eqb, ltb, leb}
-use lib.ListN.{length, replicate, length-replicate}
-use Rattle.rules.specs.Extents.{none}
+use lib.ListN.{length, length-replicate}
 use Rattle.rules.specs.Lent.{Lent, inUse}
-use Rattle.rules.specs.Device.{Device, lines, extents, deviceOf}
+use Rattle.rules.specs.Device.{deviceOf}
 use Rattle.rules.specs.Read.{found}
-use Rattle.rules.specs.Answers.{number, refuse}
+use Rattle.rules.specs.Answers.{refuse}
 use Rattle.rules.specs.Calls.{outside, readRefusal}
 use Rattle.rules.specs.declared.Refusal.{Refusal}
 use Rattle.rules.specs.declared.Extent.{Extent}

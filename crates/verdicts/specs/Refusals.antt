@@ -1,21 +1,20 @@
 -- How a call's answer follows from its verdict: the first refusal that applies, in the paper's order.
-use Prim.Native.Nat.{ℕ, _≤_, _<_}
+use Prim.Native.Nat.{ℕ}
 use mathlib.Core.Bool.{Bool, true, false, not}
 use mathlib.Core.Path.{_≡_, refl, sym, ap, _∙_}
 use mathlib.Core.List.{List}
-use native.Mathlib.Omega.{arith}
-use borrow.Author.Tests.{eq-eqb, ne-eqb, not-true, not-false, leb-true, leb-false, lt-ltb, le-ltb}
-use lib.Dec.{eqb, ltb, leb}
+use borrow.Author.Tests.{not-true, not-false, leb-true, leb-false, lt-ltb, le-ltb}
+use lib.Dec.{ltb, leb}
 use Rattle.laws.specs.Bools.{cases}
-use Rattle.laws.specs.Kept.{tested-none}
+use Rattle.laws.specs.Refused.{number-some, refuse-here, refuse-later, tested-shape, tested-damaged, tested-plain, tested-none, call-refused}
 use Rattle.laws.specs.Views.{view-refuses}
-use lib.ListN.{length, replicate}
+use lib.ListN.{replicate}
 use Rattle.rules.specs.Lent.{Lent}
 use Rattle.rules.specs.Shape.{shaped}
 use Rattle.rules.specs.Sound.{sound}
-use Rattle.rules.specs.Device.{Device, deviceOf}
+use Rattle.rules.specs.Device.{Device}
 use Rattle.rules.specs.Answers.{Outcome, number, refuse}
-use Rattle.rules.specs.Calls.{Call, refusal, refused, tested, verdict, acceptedOn, call}
+use Rattle.rules.specs.Calls.{Call, refusal, refused, tested, call}
 use Rattle.rules.specs.Views.{View, view}
 use Rattle.rules.specs.declared.Refusal.{Refusal}
 use Rattle.verdicts.specs.declared.Verdict.{Verdict}
@@ -51,26 +50,6 @@ over-not a b =
     (λ e. rw e (sym (le-ltb b a (leb-true a b e))))
     (λ e. rw e (sym (lt-ltb b a (leb-false a b e))))
 
--- ---- one test of a row
-
-pub number-some : (r : Refusal) → number r ≡ 0 → ⊥
-number-some Refusal.Shape e = omega arith
-number-some Refusal.Damaged e = omega arith
-number-some Refusal.Range e = omega arith
-number-some Refusal.Applied e = omega arith
-number-some Refusal.NoPages e = omega arith
-number-some Refusal.NoNodes e = omega arith
-number-some Refusal.OutShort e = omega arith
-number-some Refusal.NothingStale e = omega arith
-
-pub refuse-here : (t : Bool) (r : Refusal) (later : ℕ) → t ≡ true → refuse t r later ≡ number r
-unfolding refuse
-refuse-here t r later e = rw e
-
-pub refuse-later : (t : Bool) (r : Refusal) (later : ℕ) → t ≡ false → refuse t r later ≡ later
-unfolding refuse
-refuse-later t r later e = rw e
-
 -- ---- the first refusal of several tests
 
 -- a verdict on one test, before the later ones
@@ -100,20 +79,6 @@ first-then v {t} {u} r {m} {n} e f g =
 
 -- ---- 1 and 2
 
--- before the refusals of a call's own
-module _ (own : Device → ℕ) (s : Lent) where
-  pub tested-shape : shaped s ≡ false → tested own s ≡ number Refusal.Shape
-  unfolding tested
-  tested-shape e = refuse-here _ Refusal.Shape _ (ap not e)
-
-  pub tested-damaged : shaped s ≡ true → sound s ≡ false → tested own s ≡ number Refusal.Damaged
-  unfolding tested
-  tested-damaged e f = refuse-later _ Refusal.Shape _ (ap not e) ∙ refuse-here _ Refusal.Damaged _ (ap not f)
-
-  pub tested-plain : shaped s ≡ true → sound s ≡ true → tested own s ≡ own (deviceOf s)
-  unfolding tested
-  tested-plain e f = refuse-later _ Refusal.Shape _ (ap not e) ∙ refuse-later _ Refusal.Damaged _ (ap not f)
-
 module _ (s : Lent) where
   pub lent-shape : shaped s ≡ false → number Refusal.Shape ≡ lentRefusal s
   unfolding lentRefusal
@@ -133,17 +98,6 @@ module _ (s : Lent) where
   unfolding lentRefusal tested
   lent-first t u a b e f p q =
       first-then a Refusal.Shape p (ap not e) (λ g. q ∙ ap (λ (x : Bool). refuse (not x) Refusal.Damaged 0) (f (e ∙ not-false (shaped s) g)))
-
--- ---- the answer
-
-module _ (c : Call) (s : Lent) where
-  pub call-refused : (r : Refusal) → verdict c s ≡ number r → refused (number r) c s ≡ call c s
-  unfolding call
-  call-refused r e = rw (e, ne-eqb (number r) 0 (number-some r))
-
-  pub call-accepted : verdict c s ≡ 0 → acceptedOn c s ≡ call c s
-  unfolding call
-  call-accepted e = rw e
 
 -- ---- 1 and 2, told by a verdict
 

@@ -7,15 +7,16 @@ use borrow.Author.Tests.{lt-ltb, le-ltb, ltb-false}
 use lib.Dec.{eqb, ltb, leb}
 use lib.ListN.{length, length-replicate}
 use Rattle.rules.specs.Lent.{Lent}
-use Rattle.rules.specs.Device.{Device, free, extents, deviceOf}
-use Rattle.rules.specs.Placement.{puts, pieces}
+use Rattle.rules.specs.Device.{free, deviceOf}
+use Rattle.rules.specs.Placement.{puts}
 use Rattle.rules.specs.Answers.{number, refuse}
 use Rattle.rules.specs.Calls.{outside, tooMany, writeRefusal}
 use Rattle.rules.specs.declared.Refusal.{Refusal}
 use Rattle.laws.specs.Bools.{or-split}
 use Rattle.laws.specs.Sound.{Shaped, SoundState}
 use Rattle.laws.specs.Placed.{puts-slots}
-use Rattle.verdicts.specs.Refusals.{told, firstOf, roomed, over-not, refuse-here, refuse-later, first-then}
+use Rattle.laws.specs.Refused.{refuse-here, refuse-later}
+use Rattle.verdicts.specs.Refusals.{told, firstOf, roomed, over-not, first-then}
 use Rattle.verdicts.specs.Numbered.{RangeNumber, asked-refuses, asked-passes, asked-inside}
 use Rattle.verdicts.specs.Reading.{is-outside, inside-words, short-words}
 use Rattle.writable.specs.Meeting.{Writable, piecesOf, nodesOf}

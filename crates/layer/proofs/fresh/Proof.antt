@@ -6,7 +6,7 @@ use Rattle.rules.specs.Answers.{said, outcome}
 use Rattle.rules.specs.Calls.{sizesOnly}
 use Rattle.rules.specs.declared.Head.{Head}
 use Rattle.verdicts.specs.Refusals.{branch-no, branch-yes}
-use Rattle.accepted.specs.Fresh.{fresh-refused}
+use Rattle.makes.specs.Fresh.{fresh-refused}
 use borrow.Author.Needs.{needs}
 use Rattle.layer.proofs.fresh.Statement.{statement}
 use Rattle.layer.proofs.fresh.Tie as tie

@@ -7,8 +7,8 @@ use Rattle.rules.specs.Calls.{Call, refused}
 use Rattle.laws.specs.Sound.{Shaped, SoundState}
 use Rattle.verdicts.specs.Refusals.{lent-refuses}
 use Rattle.verdicts.specs.Reading.{rows-sound}
-use Rattle.accepted.specs.Accepts.{Ready, read-room, ready-state, ready, refuses}
-use Rattle.accepted.specs.Reads.{read-answer}
+use Rattle.verdicts.specs.Accepts.{Ready, read-room, ready-state, ready, refuses}
+use Rattle.views.specs.Reads.{read-answer}
 use Rattle.verdicts.specs.declared.Verdict.{Verdict}
 use mathlib.Core.Path.{_≡_}
 use Rattle.layer.proofs.read.Statement.{statement}

@@ -7,7 +7,7 @@ use Rattle.rules.specs.Calls.{Call, refused}
 use Rattle.laws.specs.Sound.{Shaped, SoundState}
 use Rattle.verdicts.specs.Refusals.{lent-refuses}
 use Rattle.verdicts.specs.Reclaiming.{state-records, found-victim}
-use Rattle.accepted.specs.Accepts.{reclaim-room, ready-state, ready, refuses}
+use Rattle.verdicts.specs.Accepts.{reclaim-room, ready-state, ready, refuses}
 use Rattle.layer.proofs.reclaim.Statement.{statement}
 use Rattle.layer.proofs.reclaim.Tie as tie
 

@@ -8,8 +8,8 @@ use Rattle.rules.specs.Calls.{Call, refused}
 use Rattle.laws.specs.Sound.{Shaped, SoundState}
 use Rattle.verdicts.specs.Refusals.{lent-refuses}
 use Rattle.verdicts.specs.Reading.{rows-sound}
-use Rattle.accepted.specs.Accepts.{Ready, trim-refusal, ready-state, ready, refuses, accepts}
-use Rattle.accepted.specs.Trims.{trim-cut, trim-leaves, trim-counts, trim-lists}
+use Rattle.verdicts.specs.Accepts.{Ready, trim-refusal, ready-state, ready, refuses, accepts}
+use Rattle.changes.specs.Trims.{trim-cut, trim-leaves, trim-counts, trim-lists}
 use Rattle.verdicts.specs.declared.Verdict.{Verdict}
 use Rattle.layer.proofs.trim.Statement.{statement}
 use Rattle.layer.proofs.trim.Tie as tie

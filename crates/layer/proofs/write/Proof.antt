@@ -4,7 +4,7 @@ use Rattle.rules.specs.Device.{deviceOf}
 use Rattle.rules.specs.Calls.{Call, refused}
 use Rattle.laws.specs.Sound.{Shaped, SoundState}
 use Rattle.verdicts.specs.Refusals.{lent-refuses}
-use Rattle.accepted.specs.Accepts.{write-room, ready-state, ready, refuses}
+use Rattle.verdicts.specs.Accepts.{write-room, ready-state, ready, refuses}
 use Rattle.layer.proofs.write.Statement.{statement}
 use Rattle.layer.proofs.write.Tie as tie
 

@@ -1,6 +1,6 @@
 use mathlib.Core.Path.{sym, ap}
 use mathlib.Core.Bool.{not}
-use Rattle.verdicts.specs.Refusals.{refuse-here, refuse-later}
+use Rattle.laws.specs.Refused.{refuse-here, refuse-later}
 use Rattle.verdicts.proofs.unless.Statement.{statement}
 use Rattle.verdicts.proofs.unless.Tie as tie
 

@@ -1,5 +1,5 @@
 use Rattle.words.specs.Shift.{shifted, shifted-start, shifted-step, shifted-end}
-use Prim.Native.Nat.{_-_, _≤_}
+use Prim.Native.Nat.{_≤_}
 use lib.ListN.{length, length-set}
 use mathlib.Core.Path.{_≡_, refl}
 use borrow.Author.Needs.{needs}

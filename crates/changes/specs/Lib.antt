@@ -1,0 +1,4 @@
+pub mod Trims
+pub mod Puts
+pub mod Writes
+pub mod Reclaims

@@ -1,0 +1,89 @@
+// What a trim, a write and a reclaim change once nothing refuses them. That nothing does is required here (`Ready`), with what was found on the way to it; the answer
+// and the words are promised as the rules give them.
+use map::Sides;
+use rules::Head;
+use rules::Listed;
+use writable::Meeting;
+ghost use mathlib.Core.Path.{_≡_};
+ghost use Prim.Native.Nat.{_+_};
+ghost use Rattle.rules.specs.Lent.{lent, inUse};
+ghost use Rattle.rules.specs.Answers.{outcome, listed};
+ghost use Rattle.rules.specs.Calls.{Call, call};
+ghost use Rattle.map.specs.Around.{Beside};
+ghost use Rattle.verdicts.specs.Accepts.{Ready};
+ghost use Rattle.changes.specs.Trims.{Cut, Holed};
+ghost use Rattle.writable.specs.Meeting.{Meets};
+ghost use Rattle.rules.specs.Device.{deviceOf};
+ghost use Rattle.rules.specs.Reclaim.{victim};
+
+// The range, whose sides are given, becomes holes: a trim that nothing refuses, and the first part of a write. The extents in use afterwards.
+pub fn cut_range(
+    h: Head,
+    ext: &mut [u32],
+    blk: &mut [u32],
+    spare: &[u32],
+    sides: Sides,
+    l: u32,
+    n: u32,
+) -> u32
+    requires { ⌜ Cut l n (lent h (now ext) (now blk) (now spare)) × Beside l (l + n) (inUse (lent h (now ext) (now blk) (now spare))) sides ⌝ }
+    ensures { λ u. ⌜ Holed l n (lent h (now (ext .entry)) (now (blk .entry)) (now (spare .entry))) u (now (ext .exit)) (now (blk .exit)) ⌝ }
+{
+    let used = h.used as usize;
+    striking::lower(ext, used, sides.first, h.pages, l, l + n, blk);
+    cutting::cut_out(ext, used, sides, l, l + n) as u32
+}
+
+// A write that nothing refuses and that meets the extents so: the range is cut out, the pages are placed, and the pieces are put in.
+pub fn place_pages(
+    h: Head,
+    ext: &mut [u32],
+    blk: &mut [u32],
+    spare: &mut [u32],
+    m: Meeting,
+    number: u64,
+    l: u32,
+    n: u32,
+    out: &mut [u32],
+) -> Listed
+    requires { ⌜ Ready (Call.write number l n (now out)) (lent h (now ext) (now blk) (now spare)) × Meets l n (lent h (now ext) (now blk) (now spare)) m ⌝ }
+    ensures { λ r. ⌜ outcome (listed r) (now (ext .exit)) (now (blk .exit)) (now (spare .exit)) (now (out .exit))
+        ≡ call (Call.write number l n (now (out .entry))) (lent h (now (ext .entry)) (now (blk .entry)) (now (spare .entry))) ⌝ }
+{
+    let sides = m.sides;
+    let left = cut_range(h, ext, blk, spare, sides, l, n);
+    let k = placing::place(blk, spare, out, h.blocks, h.pages, h.reserve, m.from, l, n);
+    let used = putting::put_pieces(ext, left as usize, sides.before, m.joined, out, k as usize);
+    let mut g = h;
+    g.used = used as u32;
+    g.last = words::kept(number);
+    Listed::Accepted(k, g)
+}
+
+// A reclaim that nothing refuses: the mapped pages of its victim, block v, listed, and everything about them moved into the reserve.
+pub fn empty_victim(
+    h: Head,
+    ext: &mut [u32],
+    blk: &mut [u32],
+    spare: &mut [u32],
+    v: u32,
+    out: &mut [u32],
+) -> Listed
+    requires { ⌜ Ready (Call.reclaim (now out)) (lent h (now ext) (now blk) (now spare)) ⌝ }
+    requires { ⌜ v ≡ victim (deviceOf (lent h (now ext) (now blk) (now spare))) ⌝ }
+    ensures { λ r. ⌜ outcome (listed r) (now (ext .exit)) (now (blk .exit)) (now (spare .exit)) (now (out .exit))
+        ≡ call (Call.reclaim (now (out .entry))) (lent h (now (ext .entry)) (now (blk .entry)) (now (spare .entry))) ⌝ }
+{
+    let used = h.used as usize;
+    let n = h.pages;
+    let ranks = choosing::ranks_of(ext, used, n, v);
+    let k = ranks[n as usize];
+    choosing::list_sources(&ranks, n, v, out);
+    reclaiming::move_labels(spare, out, k as usize, n, h.reserve, v);
+    reclaiming::move_blocks(blk, h.reserve, v);
+    let nodes = reclaiming::move_map(ext, used, n, v, h.reserve, &ranks);
+    let mut after = h;
+    after.used = nodes as u32;
+    after.reserve = v;
+    Listed::Accepted(k, after)
+}
