@@ -30,7 +30,7 @@ use Rattle.choosing.specs.Sources.{livePages}
 use Rattle.reclaiming.specs.Labels.{Copied}
 use Rattle.reclaiming.specs.Emptied.{emptied}
 use Rattle.reclaiming.specs.Reclaims.{block-room, rows-inside, rows-ends, rises-sources, rank-sources, count-sources, remapped-extents, sources-copied, moved-labels, emptied-records}
-use Rattle.verdicts.specs.Accepts.{Ready, accepts}
+use Rattle.refusals.specs.Accepts.{Ready, accepts}
 
 -- what the walks over the slots ask of them and of the reserve that the victim goes to
 pub record Walkable (h : Head) (ext : List ℕ) : Type 0 where

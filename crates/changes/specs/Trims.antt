@@ -32,9 +32,9 @@ use Rattle.laws.specs.States.{device-lines, device-blocks, device-at, state-sto
 use Rattle.map.specs.Padded.{padded, Becomes, zeros-holds, padded-words}
 use Rattle.map.specs.Sound.{SoundMap}
 use Rattle.cutting.specs.Cutting.{Cuttable}
-use Rattle.verdicts.specs.Reading.{rows-sound}
+use Rattle.map.specs.Sound.{rows-sound}
 use Rattle.striking.specs.Lowered.{Lowered, Lowerable, total-enough}
-use Rattle.verdicts.specs.Accepts.{Ready}
+use Rattle.refusals.specs.Accepts.{Ready}
 
 -- lines l, l + 1, .., n of them, can be cut out of the state
 pub record Cut (l n : ℕ) (s : Lent) : Type 0 where
@@ -67,7 +67,7 @@ module _ (l n : ℕ) (s : Lent) (z : Cut l n s) where
   cut-slots = omega (arith, z .shape .extents, z .sound .few)
 
   cut-sound : SoundMap (inUse s)
-  cut-sound = rows-sound s (z .shape) (z .sound)
+  cut-sound = rows-sound s (z .sound)
 
   -- ---- the extents
 

@@ -38,10 +38,10 @@ use Rattle.map.specs.Padded.{padded, padded-words, Becomes, became-length, beca
 use Rattle.putting.specs.Pieces.{putIn, Puttable}
 use Rattle.placing.specs.Bare.{bare, fillsOf, bare-alike}
 use Rattle.placing.specs.Place.{Placed, placed-alike, Placeable}
-use Rattle.verdicts.specs.Trimming.{trim-nodes}
 use Rattle.writable.specs.Meeting.{Writable, Meets, piecesOf, grows}
 use Rattle.writable.specs.declared.Meeting.{Meeting}
-use Rattle.verdicts.specs.Accepts.{Ready}
+use Rattle.map.specs.Around.{trim-nodes}
+use Rattle.refusals.specs.Accepts.{Ready}
 use Rattle.changes.specs.Trims.{Cut, holed, Holed}
 use Rattle.changes.specs.Puts.{piece-rows, put-extents}
 

@@ -10,7 +10,7 @@ ghost use Rattle.rules.specs.Lent.{lent, inUse};
 ghost use Rattle.rules.specs.Answers.{outcome, listed};
 ghost use Rattle.rules.specs.Calls.{Call, call};
 ghost use Rattle.map.specs.Around.{Beside};
-ghost use Rattle.verdicts.specs.Accepts.{Ready};
+ghost use Rattle.refusals.specs.Accepts.{Ready};
 ghost use Rattle.changes.specs.Trims.{Cut, Holed};
 ghost use Rattle.writable.specs.Meeting.{Meets};
 ghost use Rattle.rules.specs.Device.{deviceOf};

@@ -1,11 +1,12 @@
 // The six calls on lent words. Each takes any head, any words of any lengths and any request, and promises one equality: the answer and
-// every lent word afterwards are what the rules give of what was lent. Nothing is changed before the verdict is accepted.
+// every lent word afterwards are what the rules give of what was lent. Nothing is changed before the verdict is accepted:
+// until then a trim, a write and a reclaim look at the words through shared borrows (e, b, s).
+use refusals::Verdict;
 use rules::Counted;
 use rules::Done;
 use rules::Head;
 use rules::Listed;
 use rules::Refusal;
-use verdicts::Verdict;
 ghost use mathlib.Core.Path.{_≡_};
 ghost use mathlib.Core.List.{[]};
 ghost use Rattle.rules.specs.Lent.{lent};
@@ -76,12 +77,14 @@ pub fn trim(
 ) -> Done
     ensures { λ r. ⌜ outcome (done r) (now (ext .exit)) (now (blk .exit)) (now (spare .entry)) [] ≡ call (Call.trim number l n) (lent h (now (ext .entry)) (now (blk .entry)) (now (spare .entry))) ⌝ }
 {
-    let v = verdicts::lent_verdict(h, ext, blk, spare);
+    let e: &[u32] = ext;
+    let b: &[u32] = blk;
+    let v = verdicts::lent_verdict(h, e, b, spare);
     if let Verdict::Refused(r) = v {
         return Done::Refused(r, h);
     }
-    let sides = map::around(ext, h.used as usize, l, n);
-    let w = verdicts::trim_verdict(h, ext, blk, spare, sides, number, l, n);
+    let sides = map::around(e, h.used as usize, l, n);
+    let w = verdicts::trim_verdict(h, e, b, spare, sides, number, l, n);
     if let Verdict::Refused(r) = w {
         return Done::Refused(r, h);
     }
@@ -105,12 +108,15 @@ pub fn write(
     ensures { λ r. ⌜ outcome (listed r) (now (ext .exit)) (now (blk .exit)) (now (spare .exit)) (now (out .exit))
         ≡ call (Call.write number l n (now (out .entry))) (lent h (now (ext .entry)) (now (blk .entry)) (now (spare .entry))) ⌝ }
 {
-    let v = verdicts::lent_verdict(h, ext, blk, spare);
+    let e: &[u32] = ext;
+    let b: &[u32] = blk;
+    let s: &[u32] = spare;
+    let v = verdicts::lent_verdict(h, e, b, s);
     if let Verdict::Refused(r) = v {
         return Listed::Refused(r, h);
     }
-    let m = writable::meeting_of(h, ext, blk, spare, l, n);
-    let w = writable::write_verdict(h, ext, blk, spare, m, number, l, n, out.len());
+    let m = writable::meeting_of(h, e, b, s, l, n);
+    let w = writable::write_verdict(h, e, b, s, m, number, l, n, out.len());
     if let Verdict::Refused(r) = w {
         return Listed::Refused(r, h);
     }
@@ -127,12 +133,15 @@ pub fn reclaim(
     ensures { λ r. ⌜ outcome (listed r) (now (ext .exit)) (now (blk .exit)) (now (spare .exit)) (now (out .exit))
         ≡ call (Call.reclaim (now (out .entry))) (lent h (now (ext .entry)) (now (blk .entry)) (now (spare .entry))) ⌝ }
 {
-    let v = verdicts::lent_verdict(h, ext, blk, spare);
+    let e: &[u32] = ext;
+    let b: &[u32] = blk;
+    let s: &[u32] = spare;
+    let v = verdicts::lent_verdict(h, e, b, s);
     if let Verdict::Refused(r) = v {
         return Listed::Refused(r, h);
     }
-    let victim = choosing::victim_of(blk, h.blocks);
-    let w = verdicts::reclaim_verdict(h, ext, blk, spare, victim, out.len());
+    let victim = choosing::victim_of(b, h.blocks);
+    let w = verdicts::reclaim_verdict(h, e, b, s, victim, out.len());
     if let Verdict::Refused(r) = w {
         return Listed::Refused(r, h);
     }

@@ -6,14 +6,21 @@ use mathlib.Core.List.{List}
 use native.Mathlib.Omega.{arith}
 use borrow.Author.Tests.{eq-eqb}
 use lib.Dec.{ltb, eqb}
+use lib.ListN.{length}
 use Rattle.rules.specs.Counting.{one}
 use Rattle.rules.specs.Extents.{none, extent, end, joinable, slot, slotsFrom}
+use Rattle.rules.specs.Lent.{Lent, inUse}
+use Rattle.rules.specs.Device.{extents, deviceOf}
+use Rattle.rules.specs.Request.{trimmed}
 use Rattle.rules.specs.declared.Extent.{Extent}
 use Rattle.laws.specs.Bools.{never}
 use Rattle.laws.specs.Rows.{Rows}
+use Rattle.laws.specs.Sound.{Shaped, SoundState}
 use Rattle.laws.specs.Runs.{joinable-true}
 use Rattle.laws.specs.Slots.{slots-at, slots-length}
 use Rattle.laws.specs.Counts.{startsBefore, endsAfter, leftJoin, tally-le, left-none, left-last}
+use Rattle.laws.specs.Growth.{trim-grows}
+use Rattle.laws.specs.States.{device-lines, extents-in-use, state-storable}
 use Rattle.map.specs.Halved.{endsBy, ends-both}
 use Rattle.map.specs.declared.Sides.{Sides}
 
@@ -39,6 +46,25 @@ module _ (l : ℕ) (ws : List ℕ) (u k : ℕ) where
       let both = ends-both l (slotsFrom ws 0 u) in
       let size = slots-length ws 0 u in
       (omega arith, omega arith)
+
+-- the extents before a range and those after it are at most twice the slots
+pub few-around : (s : Lent) → Shaped s → SoundState s → (l e : ℕ) → startsBefore l (inUse s) + endsAfter e (inUse s) ≤ 16384
+few-around s h z l e =
+    omega (
+      arith,
+      tally-le (λ x. ltb (x .logical) l) (inUse s),
+      tally-le (λ x. ltb e (end x)) (inUse s),
+      slots-length (s .extentWords) 0 (s .head .used),
+      z .few,
+      h .sizes .m-high,
+    )
+
+-- a trim leaves those
+pub trim-nodes : (s : Lent) → Shaped s → SoundState s → (k l n : ℕ) → 0 < n → l + n ≤ s .head .logical
+    → length (extents (trimmed k l n (deviceOf s))) ≡ startsBefore l (inUse s) + endsAfter (l + n) (inUse s)
+trim-nodes s h z k l n some inside =
+    trim-grows k l n (deviceOf s) (state-storable s h z .sound) some (omega (arith, device-lines s))
+    ∙ ap (λ es. startsBefore l es + endsAfter (l + n) es) (extents-in-use s h z)
 
 -- ---- the last extent before a slot
 

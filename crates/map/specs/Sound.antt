@@ -4,13 +4,19 @@ use mathlib.Core.List.{List}
 use native.Mathlib.Omega.{arith}
 use Rattle.rules.specs.Extents.{none, end, slot, slotsFrom}
 use Rattle.rules.specs.declared.Extent.{Extent}
+use Rattle.rules.specs.Lent.{Lent, inUse}
 use Rattle.laws.specs.Rows.{Rows}
+use Rattle.laws.specs.Sound.{SoundState}
 use Rattle.laws.specs.Ranked.{Ranked, rows-ranked, rows-order}
 
 pub record SoundMap (es : List Extent) : Type 0 where
   pub pages : ℕ
   pub logical : ℕ
   pub rows : Rows pages 0 none logical es
+
+-- a sound state's are such
+pub rows-sound : (s : Lent) → SoundState s → SoundMap (inUse s)
+rows-sound s z = record { pages = s .head .pages; logical = s .head .logical; rows = z .rows }
 
 -- an extent has pages, and their numbers are words
 pub record Piece (x : Extent) : Type 0 where

@@ -11,12 +11,17 @@ use borrow.Author.Tests.{lt-ltb, le-ltb}
 use lib.Dec.{ltb}
 use lib.ListN.{length, length-append}
 use Rattle.rules.specs.Extents.{none, extent, end, slot, slotsFrom}
-use Rattle.rules.specs.Read.{withHole, withHoles}
+use Rattle.rules.specs.Lent.{Lent, inUse}
+use Rattle.rules.specs.Device.{deviceOf}
+use Rattle.rules.specs.Read.{withHole, withHoles, found}
 use Rattle.rules.specs.declared.Extent.{Extent}
 use Rattle.laws.specs.Bools.{cases}
 use Rattle.laws.specs.Unique.{extent-path}
 use Rattle.laws.specs.Cut.{below, from, below-none, below-part, below-all, from-none, from-part, from-all}
 use Rattle.laws.specs.Slots.{slots-first}
+use Rattle.laws.specs.Sound.{Shaped, SoundState}
+use Rattle.laws.specs.Read.{found-window}
+use Rattle.laws.specs.States.{device-lines, extents-in-use, state-storable, table-lines}
 use Rattle.map.specs.Sound.{SoundMap, sound-piece, sound-order}
 use Rattle.map.specs.Halved.{endsBy, from-there}
 
@@ -210,3 +215,12 @@ count-end ws u pos e i k j total w t g = omega (arith, ap length w)
 
 pub hole-le : (a b : ℕ) → length (withHole a b []) ≤ 1
 hole-le a b = by-cases (decLt a b) (λ h. omega (arith, hole-one a b h)) (λ h. omega (arith, hole-zero a b (omega arith)))
+
+-- ---- of a state
+
+-- what a read in range finds
+pub found-words : (s : Lent) → Shaped s → SoundState s → (l n : ℕ) → l + n ≤ s .head .logical → found l n (deviceOf s) ≡ between l (l + n) (inUse s)
+found-words s h z l n f =
+    let g = state-storable s h z in
+    found-window l n (deviceOf s) (g .sound .some) (omega (arith, device-lines s)) (table-lines (deviceOf s) (g .sound))
+    ∙ ap (between l (l + n)) (extents-in-use s h z)

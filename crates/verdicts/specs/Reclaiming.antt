@@ -24,8 +24,8 @@ use Rattle.laws.specs.Reclaimed.{length-sources}
 use Rattle.laws.specs.Gains.{victim-chosen}
 use Rattle.blocks.specs.Totals.{state-filled, device-stale}
 use Rattle.choosing.specs.Stale.{staleWord, victim-words}
-use Rattle.verdicts.specs.Refusals.{told, firstOf, roomed, over-not, first-then}
-use Rattle.verdicts.specs.declared.Verdict.{Verdict}
+use Rattle.refusals.specs.Refusals.{told, firstOf, roomed, over-not, first-then}
+use Rattle.refusals.specs.declared.Verdict.{Verdict}
 
 module _ (s : Lent) (h : Shaped s) (z : SoundState s) where
   -- what the search for the victim asks of the block records

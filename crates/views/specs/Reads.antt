@@ -21,9 +21,8 @@ use Rattle.laws.specs.Slots.{slots-length}
 use Rattle.laws.specs.Shapes.{lines-pages, pages-high}
 use Rattle.laws.specs.States.{device-lines}
 use Rattle.laws.specs.Views.{view-accepts, read-view}
-use Rattle.reading.specs.Walk.{between}
-use Rattle.verdicts.specs.Reading.{found-words}
-use Rattle.verdicts.specs.Accepts.{Ready}
+use Rattle.reading.specs.Walk.{between, found-words}
+use Rattle.refusals.specs.Accepts.{Ready}
 
 -- ---- a piece for each extent and a hole for each gap, at most
 

@@ -11,7 +11,7 @@ ghost use Rattle.rules.specs.Sound.{sound};
 ghost use Rattle.rules.specs.Answers.{outcome, counted};
 ghost use Rattle.rules.specs.Calls.{Call, call};
 ghost use Rattle.map.specs.Halved.{endsBy};
-ghost use Rattle.verdicts.specs.Accepts.{Ready};
+ghost use Rattle.refusals.specs.Accepts.{Ready};
 ghost use Rattle.views.specs.Reads.{ListedPieces};
 
 // A report that nothing refuses.

@@ -16,11 +16,11 @@ use Rattle.laws.specs.Bools.{or-split}
 use Rattle.laws.specs.Sound.{Shaped, SoundState}
 use Rattle.laws.specs.Placed.{puts-slots}
 use Rattle.laws.specs.Refused.{refuse-here, refuse-later}
-use Rattle.verdicts.specs.Refusals.{told, firstOf, roomed, over-not, first-then}
-use Rattle.verdicts.specs.Numbered.{RangeNumber, asked-refuses, asked-passes, asked-inside}
-use Rattle.verdicts.specs.Reading.{is-outside, inside-words, short-words}
+use Rattle.refusals.specs.Refusals.{told, firstOf, roomed, over-not, first-then}
+use Rattle.refusals.specs.Numbered.{numberRefusal, asked-refuses, asked-passes, asked-inside}
+use Rattle.refusals.specs.Ranges.{is-outside, inside-words, short-words}
 use Rattle.writable.specs.Meeting.{Writable, piecesOf, nodesOf}
-use Rattle.verdicts.specs.declared.Verdict.{Verdict}
+use Rattle.refusals.specs.declared.Verdict.{Verdict}
 
 not-both : (a b : Bool) → not (a && b) ≡ (not a || not b)
 not-both true b = refl
@@ -38,9 +38,10 @@ module _ (s : Lent) (h : Shaped s) (z : SoundState s) (l n : ℕ) where
   pub is-out-or-long : (t u : Bool) → not t ≡ (eqb n 0 || ltb (s .head .logical) (l + n)) → u ≡ (t && leb n (s .head .pages)) → not u ≡ outOrLong
   is-out-or-long t u e i =
       ap not i ∙ not-both t (leb n (s .head .pages))
-      ∙ ap₂ _||_ (is-outside s h z l n t e) (over-not n (s .head .pages) ∙ ap (λ (m : ℕ). ltb m n) (sym pages-same))
+      ∙ ap₂ _||_ (is-outside s l n t e) (over-not n (s .head .pages) ∙ ap (λ (m : ℕ). ltb m n) (sym pages-same))
 
-module _ (s : Lent) (h : Shaped s) (z : SoundState s) (k l n room : ℕ) (v : Verdict) (a : RangeNumber s k (outOrLong s h z l n) v) where
+module _ (s : Lent) (h : Shaped s) (z : SoundState s) (k l n room : ℕ) (v : Verdict)
+    (a : told v ≡ refuse (outOrLong s h z l n) Refusal.Range (numberRefusal (s .head) k)) where
   pub write-asked : (r : Refusal) → v ≡ Verdict.Refused r → number r ≡ writeRefusal k l n (roomed room) (deviceOf s)
   unfolding writeRefusal
   write-asked r g = asked-refuses s k (outOrLong s h z l n) v a r _ g
@@ -64,7 +65,7 @@ module _ (s : Lent) (h : Shaped s) (z : SoundState s) (k l n room : ℕ) (v : Ve
       pub writable : Writable l n s
       writable =
           let o = or-split (outside l n (deviceOf s)) (ltb (deviceOf s .pages) n) (asked-inside s k (outOrLong s h z l n) v a g) in
-          let r = inside-words s h z l n (o .0) in
+          let r = inside-words s l n (o .0) in
           record {
             shape = h;
             sound = z;

@@ -1,9 +1,9 @@
 // What a write of a sound state is refused for, and where its new extents meet the old ones: found first, for any range, then handed to the verdict and to
 // the change. Nothing is changed here.
 use map::Sides;
+use refusals::Verdict;
 use rules::Head;
 use rules::Refusal;
-use verdicts::Verdict;
 ghost use mathlib.Core.Path.{_≡_};
 ghost use Prim.Native.Nat.{_+_, _≤_};
 ghost use Rattle.rules.specs.Counting.{one};
@@ -11,7 +11,7 @@ ghost use Rattle.rules.specs.Lent.{lent};
 ghost use Rattle.rules.specs.Device.{deviceOf};
 ghost use Rattle.rules.specs.Calls.{writeRefusal};
 ghost use Rattle.laws.specs.Sound.{Shaped, SoundState};
-ghost use Rattle.verdicts.specs.Refusals.{told, roomed};
+ghost use Rattle.refusals.specs.Refusals.{told, roomed};
 ghost use Rattle.writable.specs.Meeting.{Meets};
 
 // Where a write's new extents meet the old ones: the sides of its range, the block that its pages start with, and whether the last extent
@@ -64,10 +64,8 @@ pub fn write_verdict(
     requires { ⌜ Shaped (lent h (now ext) (now blk) (now spare)) × SoundState (lent h (now ext) (now blk) (now spare)) × Meets l n (lent h (now ext) (now blk) (now spare)) m ⌝ }
     ensures { λ v. ⌜ told v ≡ writeRefusal number l n (roomed room) (deviceOf (lent h (now (ext .entry)) (now (blk .entry)) (now (spare .entry)))) ⌝ }
 {
-    let inside = verdicts::in_range(h.logical, l, n) && n <= h.pages;
-    let range = verdicts::unless(inside, Refusal::Range);
-    let judged = verdicts::number_verdict(h, number);
-    let asked = verdicts::first_of(range, judged);
+    let inside = refusals::in_range(h.logical, l, n) && n <= h.pages;
+    let asked = refusals::asked_verdict(h, inside, number);
     if let Verdict::Refused(r) = asked {
         return Verdict::Refused(r);
     }
@@ -78,7 +76,7 @@ pub fn write_verdict(
     let nodes = nodes_after(m, k);
     let fits = nodes <= h.slots as usize;
     let listed = (k as usize) <= room / 3;
-    let many = verdicts::unless(fits, Refusal::NoNodes);
-    let short = verdicts::unless(listed, Refusal::OutShort);
-    verdicts::first_of(many, short)
+    let many = refusals::unless(fits, Refusal::NoNodes);
+    let short = refusals::unless(listed, Refusal::OutShort);
+    refusals::first_of(many, short)
 }

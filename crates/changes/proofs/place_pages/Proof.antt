@@ -2,7 +2,7 @@ use borrow.Author.Needs.{needs}
 use native.Mathlib.Omega.{arith}
 use Rattle.rules.specs.Lent.{Lent, lent}
 use Rattle.rules.specs.Calls.{Call}
-use Rattle.verdicts.specs.Accepts.{accepts}
+use Rattle.refusals.specs.Accepts.{accepts}
 use Rattle.changes.specs.Writes.{write-cut, placeable, puttable, write-leaves, write-counts, write-lists, write-few}
 use Rattle.changes.proofs.place_pages.Statement.{statement}
 use Rattle.changes.proofs.place_pages.Tie as tie

@@ -5,7 +5,7 @@ use Rattle.rules.specs.Shape.{shape}
 use Rattle.rules.specs.Answers.{said, outcome}
 use Rattle.rules.specs.Calls.{sizesOnly}
 use Rattle.rules.specs.declared.Head.{Head}
-use Rattle.verdicts.specs.Refusals.{branch-no, branch-yes}
+use Rattle.refusals.specs.Refusals.{branch-no, branch-yes}
 use Rattle.makes.specs.Fresh.{fresh-refused}
 use borrow.Author.Needs.{needs}
 use Rattle.layer.proofs.fresh.Statement.{statement}

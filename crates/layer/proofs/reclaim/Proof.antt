@@ -3,11 +3,11 @@ use mathlib.Core.Path.{_≡_, _∙_}
 use Rattle.rules.specs.Lent.{Lent, lent}
 use Rattle.rules.specs.Device.{deviceOf}
 use Rattle.rules.specs.Reclaim.{victim}
-use Rattle.rules.specs.Calls.{Call, refused}
+use Rattle.rules.specs.Calls.{Call, refusal, refused}
 use Rattle.laws.specs.Sound.{Shaped, SoundState}
-use Rattle.verdicts.specs.Refusals.{lent-refuses}
+use Rattle.refusals.specs.Refusals.{told, lent-refuses}
 use Rattle.verdicts.specs.Reclaiming.{state-records, found-victim}
-use Rattle.verdicts.specs.Accepts.{reclaim-room, ready-state, ready, refuses}
+use Rattle.refusals.specs.Accepts.{reclaim-room, ready-state, ready, refuses}
 use Rattle.layer.proofs.reclaim.Statement.{statement}
 use Rattle.layer.proofs.reclaim.Tie as tie
 
@@ -17,96 +17,53 @@ asks s = Call.reclaim (s .args .out .now)
 abbrev state : tie.Start → Lent
 state s = lent (s .args .h) (s .args .ext .now) (s .args .blk .now) (s .args .spare .now)
 
--- where the first verdict has accepted
-abbrev start : tie.After-enum-told → tie.Start
-start t = t .before .before .before .before .before .before .before .before .before .before
+abbrev start : tie.After-lent-verdict → tie.Start
+start c = c .before .before .before .before .before .before .before .before
 
-held : (t : tie.After-enum-told) → Shaped (state (start t)) × SoundState (state (start t))
-held t = ready-state (asks (start t)) (state (start t)) _ (t .before .before .lent-verdict .ensures) (t .enum-told .given .1)
+-- where the first verdict has accepted
+held : (t : tie.After-enum-told) → let s = start (t .before .before) in Shaped (state s) × SoundState (state s)
+held t = let v = t .before .before in ready-state (asks (start v)) (state (start v)) _ (v .lent-verdict .ensures) (t .enum-told .given .1)
 
 -- where the victim is found
-found : (v : tie.After-victim-of) → v .victim-of .result ≡ victim (deviceOf (state (start (v .before .before))))
-found v = let t = v .before .before in v .victim-of .ensures ∙ found-victim (state (start t)) (held t .0) (held t .1)
+found : (c : tie.After-victim-of) → c .victim-of .result ≡ victim (deviceOf (state (start (c .before .before .before))))
+found c = let t = c .before in c .victim-of .ensures ∙ found-victim (state (start (t .before .before))) (held t .0) (held t .1)
 
-lent-verdict-requires : tie.Need-lent-verdict-requires
-lent-verdict-requires c κs = search needs
-
-enum-known-v : tie.Need-enum-known-v
-enum-known-v c = search needs
-
-same-length : tie.Need-same-length
-same-length c = search needs
-
-same-length-2 : tie.Need-same-length-2
-same-length-2 c = search needs
-
-same-length-3 : tie.Need-same-length-3
-same-length-3 c = search needs
+-- the second verdict is the rules'
+judged : (w : tie.After-reclaim-verdict) → let s = start (w .before .before .before .before) in told (w .reclaim-verdict .result) ≡ refusal (asks s) (deviceOf (state s))
+judged w =
+    let s = start (w .before .before .before .before) in
+    w .reclaim-verdict .ensures ∙ reclaim-room (s .args .out .now) (deviceOf (state s))
 
 returns : tie.Need-returns
 unfolding refused
 returns c =
-    let s = c .before .before .before .before .before .before .before .before .before .before .before in
-    lent-refuses (asks s) (state s) _ (c .before .v .given .0 .0) (c .before .before .before .lent-verdict .ensures) (c .before .v .given .1)
-
-enum-told : tie.Need-enum-told
-enum-told c = search needs
+    let v = c .before .before .before in
+    let s = start v in
+    lent-refuses (asks s) (state s) _ (c .before .v .given .0 .0) (v .lent-verdict .ensures) (c .before .v .given .1)
 
 victim-of-requires : tie.Need-victim-of-requires
-victim-of-requires c κs = let t = c .before in state-records (state (start t)) (held t .0) (held t .1)
+victim-of-requires t κs = state-records (state (start (t .before .before))) (held t .0) (held t .1)
 
 reclaim-verdict-requires : tie.Need-reclaim-verdict-requires
-reclaim-verdict-requires c κs =
-    let v = c .before .before .before in
-    let t = v .before .before in
-    (held t, found v)
-
-enum-known-w : tie.Need-enum-known-w
-enum-known-w c = search needs
-
-same-length-4 : tie.Need-same-length-4
-same-length-4 c = search needs
-
-same-length-5 : tie.Need-same-length-5
-same-length-5 c = search needs
-
-same-length-6 : tie.Need-same-length-6
-same-length-6 c = search needs
+reclaim-verdict-requires c κs = (held (c .before), found c)
 
 returns-2 : tie.Need-returns-2
 unfolding refused
 returns-2 c =
     let w = c .before .before .before in
-    let t = w .before .before .before .before .before .before in
-    let s = start t in
-    refuses (asks s) (state s) _ (t .before .before .lent-verdict .ensures) (t .enum-told .given .1) (w .reclaim-verdict .result) _ (w .reclaim-verdict .ensures)
-    (reclaim-room (s .args .out .now) (deviceOf (state s))) (c .before .w .given .0 .0) (c .before .w .given .1)
-
-enum-told-2 : tie.Need-enum-told-2
-enum-told-2 c = search needs
+    let t = w .before .before in
+    let v = t .before .before in
+    let s = start v in
+    refuses (asks s) (state s) _ (v .lent-verdict .ensures) (t .enum-told .given .1) _ (judged w) (c .before .w .given .0 .0) (c .before .w .given .1)
 
 empty-victim-requires : tie.Need-empty-victim-requires
 empty-victim-requires c κs =
-    let w = c .before .before .before .before .before .before in
-    let v = w .before .before .before .before in
-    let t = v .before .before in
-    let s = start t in (
-      ready (asks s) (state s) _ (t .before .before .lent-verdict .ensures) (t .enum-told .given .1) (w .reclaim-verdict .result) _ (w .reclaim-verdict .ensures)
-          (reclaim-room (s .args .out .now) (deviceOf (state s))) (c .before .before .before .before .enum-told2 .given .1),
-      found v,
-    )
-
-same-length-7 : tie.Need-same-length-7
-same-length-7 c = search needs
-
-same-length-8 : tie.Need-same-length-8
-same-length-8 c = search needs
-
-same-length-9 : tie.Need-same-length-9
-same-length-9 c = search needs
-
-same-length-10 : tie.Need-same-length-10
-same-length-10 c = search needs
+    let passed = c .before .before .before .before in
+    let w = passed .before .before in
+    let t = w .before .before in
+    let v = t .before .before in
+    let s = start v in
+    (ready (asks s) (state s) _ (v .lent-verdict .ensures) (t .enum-told .given .1) _ (judged w) (passed .enum-told2 .given .1), found (w .before))
 
 returns-3 : tie.Need-returns-3
 returns-3 c = c .before .before .before .before .before .before .before .before .empty-victim .ensures
@@ -114,25 +71,6 @@ returns-3 c = c .before .before .before .before .before .before .before .before 
 pub reclaim-spec : {M : Type 1} → statement M
 reclaim-spec =
     tie.close
-    (tie.spec
-    lent-verdict-requires
-    enum-known-v
-    same-length
-    same-length-2
-    same-length-3
-    returns
-    enum-told
-    victim-of-requires
-    reclaim-verdict-requires
-    enum-known-w
-    same-length-4
-    same-length-5
-    same-length-6
-    returns-2
-    enum-told-2
-    empty-victim-requires
-    same-length-7
-    same-length-8
-    same-length-9
-    same-length-10
-    returns-3)
+    (tie.spec (λ c κs. search needs) (λ c. search needs) (λ c. search needs) (λ c. search needs) (λ c. search needs) returns (λ c. search needs)
+    victim-of-requires reclaim-verdict-requires (λ c. search needs) (λ c. search needs) (λ c. search needs) (λ c. search needs) returns-2
+    (λ c. search needs) empty-victim-requires (λ c. search needs) (λ c. search needs) (λ c. search needs) (λ c. search needs) returns-3)

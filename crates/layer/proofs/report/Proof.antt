@@ -4,7 +4,7 @@ use borrow.Author.Needs.{needs}
 use Rattle.rules.specs.Lent.{Lent, lent}
 use Rattle.rules.specs.Views.{reporting}
 use Rattle.laws.specs.Views.{report-view}
-use Rattle.verdicts.specs.Refusals.{lent-accepts, view-told}
+use Rattle.refusals.specs.Refusals.{lent-accepts, view-told}
 use Rattle.layer.proofs.report.Statement.{statement}
 use Rattle.layer.proofs.report.Tie as tie
 

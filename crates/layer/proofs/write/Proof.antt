@@ -1,10 +1,11 @@
 use borrow.Author.Needs.{needs}
+use mathlib.Core.Path.{_≡_, _∙_}
 use Rattle.rules.specs.Lent.{Lent, lent}
 use Rattle.rules.specs.Device.{deviceOf}
-use Rattle.rules.specs.Calls.{Call, refused}
+use Rattle.rules.specs.Calls.{Call, refusal, refused}
 use Rattle.laws.specs.Sound.{Shaped, SoundState}
-use Rattle.verdicts.specs.Refusals.{lent-refuses}
-use Rattle.verdicts.specs.Accepts.{write-room, ready-state, ready, refuses}
+use Rattle.refusals.specs.Refusals.{told, lent-refuses}
+use Rattle.refusals.specs.Accepts.{write-room, ready-state, ready, refuses}
 use Rattle.layer.proofs.write.Statement.{statement}
 use Rattle.layer.proofs.write.Tie as tie
 
@@ -14,120 +15,54 @@ asks s = Call.write (s .args .number) (s .args .l) (s .args .n) (s .args .out .n
 abbrev state : tie.Start → Lent
 state s = lent (s .args .h) (s .args .ext .now) (s .args .blk .now) (s .args .spare .now)
 
+abbrev start : tie.After-lent-verdict → tie.Start
+start c = c .before .before .before .before .before .before .before .before
+
 -- where the first verdict has accepted
-abbrev start : tie.After-enum-told → tie.Start
-start t = t .before .before .before .before .before .before .before .before .before .before
+held : (t : tie.After-enum-told) → let s = start (t .before .before) in Shaped (state s) × SoundState (state s)
+held t = let v = t .before .before in ready-state (asks (start v)) (state (start v)) _ (v .lent-verdict .ensures) (t .enum-told .given .1)
 
-held : (t : tie.After-enum-told) → Shaped (state (start t)) × SoundState (state (start t))
-held t = ready-state (asks (start t)) (state (start t)) _ (t .before .before .lent-verdict .ensures) (t .enum-told .given .1)
-
-lent-verdict-requires : tie.Need-lent-verdict-requires
-lent-verdict-requires c κs = search needs
-
-enum-known-v : tie.Need-enum-known-v
-enum-known-v c = search needs
-
-same-length : tie.Need-same-length
-same-length c = search needs
-
-same-length-2 : tie.Need-same-length-2
-same-length-2 c = search needs
-
-same-length-3 : tie.Need-same-length-3
-same-length-3 c = search needs
+-- the second verdict is the rules'
+judged : (w : tie.After-write-verdict) → let s = start (w .before .before .before .before) in told (w .write-verdict .result) ≡ refusal (asks s) (deviceOf (state s))
+judged w =
+    let s = start (w .before .before .before .before) in
+    w .write-verdict .ensures ∙ write-room (s .args .number) (s .args .l) (s .args .n) (s .args .out .now) (deviceOf (state s))
 
 returns : tie.Need-returns
 unfolding refused
 returns c =
-    let s = c .before .before .before .before .before .before .before .before .before .before .before in
-    lent-refuses (asks s) (state s) _ (c .before .v .given .0 .0) (c .before .before .before .lent-verdict .ensures) (c .before .v .given .1)
-
-enum-told : tie.Need-enum-told
-enum-told c = search needs
+    let v = c .before .before .before in
+    let s = start v in
+    lent-refuses (asks s) (state s) _ (c .before .v .given .0 .0) (v .lent-verdict .ensures) (c .before .v .given .1)
 
 meeting-of-requires : tie.Need-meeting-of-requires
-meeting-of-requires c κs =
-    let t = c .before .before .before in
-    held t
+meeting-of-requires c κs = held c
 
 write-verdict-requires : tie.Need-write-verdict-requires
-write-verdict-requires c κs =
-    let m = c .before .before .before in
-    let t = m .before .before .before .before in
-    (held t .0, held t .1, m .meeting-of .ensures)
-
-enum-known-w : tie.Need-enum-known-w
-enum-known-w c = search needs
-
-same-length-4 : tie.Need-same-length-4
-same-length-4 c = search needs
-
-same-length-5 : tie.Need-same-length-5
-same-length-5 c = search needs
-
-same-length-6 : tie.Need-same-length-6
-same-length-6 c = search needs
+write-verdict-requires c κs = let t = c .before in (held t .0, held t .1, c .meeting-of .ensures)
 
 returns-2 : tie.Need-returns-2
 unfolding refused
 returns-2 c =
     let w = c .before .before .before in
-    let t = w .before .before .before .before .before .before .before .before in
-    let s = start t in
-    refuses (asks s) (state s) _ (t .before .before .lent-verdict .ensures) (t .enum-told .given .1) (w .write-verdict .result) _ (w .write-verdict .ensures)
-    (write-room (s .args .number) (s .args .l) (s .args .n) (s .args .out .now) (deviceOf (state s))) (c .before .w .given .0 .0) (c .before .w .given .1)
-
-enum-told-2 : tie.Need-enum-told-2
-enum-told-2 c = search needs
+    let t = w .before .before in
+    let v = t .before .before in
+    let s = start v in
+    refuses (asks s) (state s) _ (v .lent-verdict .ensures) (t .enum-told .given .1) _ (judged w) (c .before .w .given .0 .0) (c .before .w .given .1)
 
 place-pages-requires : tie.Need-place-pages-requires
 place-pages-requires c κs =
-    let w = c .before .before .before .before .before .before in
-    let m = w .before .before .before .before in
-    let t = m .before .before .before .before in
-    let s = start t in (
-      ready (asks s) (state s) _ (t .before .before .lent-verdict .ensures) (t .enum-told .given .1) (w .write-verdict .result) _ (w .write-verdict .ensures)
-          (write-room (s .args .number) (s .args .l) (s .args .n) (s .args .out .now) (deviceOf (state s))) (c .before .before .before .before .enum-told2 .given .1),
-      m .meeting-of .ensures,
-    )
-
-same-length-7 : tie.Need-same-length-7
-same-length-7 c = search needs
-
-same-length-8 : tie.Need-same-length-8
-same-length-8 c = search needs
-
-same-length-9 : tie.Need-same-length-9
-same-length-9 c = search needs
-
-same-length-10 : tie.Need-same-length-10
-same-length-10 c = search needs
-
-returns-3 : tie.Need-returns-3
-returns-3 c = search needs
+    let passed = c .before .before .before .before in
+    let w = passed .before .before in
+    let m = w .before in
+    let t = m .before in
+    let v = t .before .before in
+    let s = start v in
+    (ready (asks s) (state s) _ (v .lent-verdict .ensures) (t .enum-told .given .1) _ (judged w) (passed .enum-told2 .given .1), m .meeting-of .ensures)
 
 pub write-spec : {M : Type 1} → statement M
 write-spec =
     tie.close
-    (tie.spec
-    lent-verdict-requires
-    enum-known-v
-    same-length
-    same-length-2
-    same-length-3
-    returns
-    enum-told
-    meeting-of-requires
-    write-verdict-requires
-    enum-known-w
-    same-length-4
-    same-length-5
-    same-length-6
-    returns-2
-    enum-told-2
-    place-pages-requires
-    same-length-7
-    same-length-8
-    same-length-9
-    same-length-10
-    returns-3)
+    (tie.spec (λ c κs. search needs) (λ c. search needs) (λ c. search needs) (λ c. search needs) (λ c. search needs) returns (λ c. search needs)
+    meeting-of-requires write-verdict-requires (λ c. search needs) (λ c. search needs) (λ c. search needs) (λ c. search needs) returns-2
+    (λ c. search needs) place-pages-requires (λ c. search needs) (λ c. search needs) (λ c. search needs) (λ c. search needs) (λ c. search needs))

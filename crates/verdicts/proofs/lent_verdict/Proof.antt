@@ -5,7 +5,7 @@ use mathlib.Core.Logic.{⊎-elim}
 use Rattle.rules.specs.Lent.{Lent, lent}
 use Rattle.rules.specs.Shape.{shaped}
 use Rattle.rules.specs.Sound.{sound}
-use Rattle.verdicts.specs.Refusals.{lent-first}
+use Rattle.refusals.specs.Refusals.{lent-first}
 use Rattle.verdicts.proofs.lent_verdict.Statement.{statement}
 use Rattle.verdicts.proofs.lent_verdict.Tie as tie
 

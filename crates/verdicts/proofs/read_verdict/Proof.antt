@@ -9,7 +9,9 @@ use Prim.Native.Nat.{ℕ, _+_, _/_}
 use Rattle.rules.specs.Lent.{Lent, lent, inUse}
 use Rattle.laws.specs.Shapes.{lines-pages, pages-high}
 use Rattle.reading.specs.Walk.{between}
-use Rattle.verdicts.specs.Reading.{range-fits, rows-sound, read-first}
+use Rattle.map.specs.Sound.{rows-sound}
+use Rattle.refusals.specs.Ranges.{range-fits}
+use Rattle.verdicts.specs.Reading.{read-first}
 use Rattle.verdicts.proofs.read_verdict.Statement.{statement}
 use Rattle.verdicts.proofs.read_verdict.Tie as tie
 
@@ -41,7 +43,7 @@ add-count-found c =
 count-found-requires : tie.Need-count-found-requires
 count-found-requires c κs =
     let s = c .before .before .before .before .before .before in
-    (omega (arith, s .pre .0 .extents, s .pre .1 .few), omega arith, rows-sound (state s) (s .pre .0) (s .pre .1), s .pre .2)
+    (omega (arith, s .pre .0 .extents, s .pre .1 .few), omega arith, rows-sound (state s) (s .pre .1), s .pre .2)
 
 unless-requires : tie.Need-unless-requires
 unless-requires c κs = search needs

@@ -1,7 +1,7 @@
 use borrow.Author.Needs.{needs}
 use native.Mathlib.Omega.{arith}
 use Rattle.rules.specs.Lent.{Lent, lent}
-use Rattle.verdicts.specs.Reading.{rows-sound}
+use Rattle.map.specs.Sound.{rows-sound}
 use Rattle.views.specs.Reads.{read-inside, read-slots, read-fits, read-few}
 use Rattle.views.proofs.list_pieces.Statement.{statement}
 use Rattle.views.proofs.list_pieces.Tie as tie
@@ -23,7 +23,7 @@ list-found-requires c κs =
     let s = start (c .before) in
     let a = s .args in
     let z = s .pre .0 in (
-      (read-slots (a .l) (a .n) (a .out .now) (state s) z, omega arith, rows-sound (state s) (z .shape) (z .sound), s .pre .1),
+      (read-slots (a .l) (a .n) (a .out .now) (state s) z, omega arith, rows-sound (state s) (z .sound), s .pre .1),
       read-fits (a .l) (a .n) (a .out .now) (state s) z,
     )
 

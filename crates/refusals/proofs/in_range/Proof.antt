@@ -2,9 +2,9 @@ use borrow.Author.Needs.{needs}
 use borrow.Author.Tests.{eq-eqb, ne-eqb}
 use native.Mathlib.Omega.{arith}
 use Prim.Native.Nat.{_+_}
-use Rattle.verdicts.specs.Refusals.{over-not}
-use Rattle.verdicts.proofs.in_range.Statement.{statement}
-use Rattle.verdicts.proofs.in_range.Tie as tie
+use Rattle.refusals.specs.Refusals.{over-not}
+use Rattle.refusals.proofs.in_range.Statement.{statement}
+use Rattle.refusals.proofs.in_range.Tie as tie
 
 returns : tie.Need-returns
 returns c = rw (eq-eqb (c .before .args .n) 0 (omega arith))

@@ -1,6 +1,6 @@
 -- The test of a number, by the head that was given. What it is, the rules say; here it is read off the words.
 use Prim.Native.Nat.{ℕ, _≤_, _<_}
-use mathlib.Core.Path.{_≡_, refl, sym, ap, _∙_}
+use mathlib.Core.Path.{_≡_, sym, ap, _∙_}
 use mathlib.Core.Bool.{Bool, false}
 use borrow.Author.Tests.{le-leb, lt-leb}
 use lib.Dec.{leb}
@@ -10,9 +10,10 @@ use Rattle.rules.specs.Request.{applied, judged}
 use Rattle.rules.specs.Answers.{number, refuse}
 use Rattle.rules.specs.declared.Head.{Head}
 use Rattle.rules.specs.declared.Refusal.{Refusal}
-use Rattle.laws.specs.Refused.{refuse-here, refuse-later, refuse-none}
-use Rattle.verdicts.specs.Refusals.{told, firstOf, first-refuse, first-both, first-then}
-use Rattle.verdicts.specs.declared.Verdict.{Verdict}
+use Rattle.laws.specs.Bools.{cases}
+use Rattle.laws.specs.Refused.{number-some, refuse-here, refuse-later, refuse-none}
+use Rattle.refusals.specs.Refusals.{told, firstOf, first-some, first-refuse}
+use Rattle.refusals.specs.declared.Verdict.{Verdict}
 
 -- 4, or 0
 unfoldable pub numberRefusal : Head → ℕ → ℕ
@@ -31,21 +32,14 @@ number-first : (s : Lent) (k : ℕ) (v : Verdict) → told v ≡ numberRefusal (
 unfolding numberRefusal judged applied deviceOf
 number-first s k v e later = first-refuse v (leb k (s .head .last .number)) Refusal.Applied e later
 
--- ---- 3, then 4, as a write and a trim are tested
+-- ---- 3, then 4, as a write and a trim are asked: x is the rules' test of the range
 
--- v is the first refusal of the two; x is the rules' test of the range
-pub record RangeNumber (s : Lent) (k : ℕ) (x : Bool) (v : Verdict) : Type 0 where
-  pub range : Verdict
-  pub number : Verdict
-  pub range-is : told range ≡ refuse x Refusal.Range 0
-  pub number-is : told number ≡ numberRefusal (s .head) k
-  pub first : told v ≡ firstOf range (told number)
-
-module _ (s : Lent) (k : ℕ) (x : Bool) (v : Verdict) (a : RangeNumber s k x v) where
+module _ (s : Lent) (k : ℕ) (x : Bool) (v : Verdict) (e : told v ≡ refuse x Refusal.Range (numberRefusal (s .head) k)) where
   asked : (later : ℕ) → firstOf v later ≡ refuse x Refusal.Range (judged k (deviceOf s) later)
   asked later =
-      first-both v (a .range) (a .number) (a .first) later
-      ∙ first-then (a .range) Refusal.Range (a .range-is) refl (λ g. number-first s k (a .number) (a .number-is) later)
+      cases x
+      (λ t. first-some v (number Refusal.Range) (e ∙ refuse-here x Refusal.Range _ t) (number-some Refusal.Range) later ∙ sym (refuse-here x Refusal.Range _ t))
+      (λ t. number-first s k v (e ∙ refuse-later x Refusal.Range _ t) later ∙ sym (refuse-later x Refusal.Range _ t))
 
   pub asked-refuses : (r : Refusal) (later : ℕ) → v ≡ Verdict.Refused r → number r ≡ refuse x Refusal.Range (judged k (deviceOf s) later)
   asked-refuses r later g = sym (ap (λ (w : Verdict). firstOf w later) g) ∙ asked later

@@ -1,8 +1,8 @@
 use mathlib.Core.Path.{sym, ap}
 use mathlib.Core.Bool.{not}
 use Rattle.laws.specs.Refused.{refuse-here, refuse-later}
-use Rattle.verdicts.proofs.unless.Statement.{statement}
-use Rattle.verdicts.proofs.unless.Tie as tie
+use Rattle.refusals.proofs.unless.Statement.{statement}
+use Rattle.refusals.proofs.unless.Tie as tie
 
 returns : tie.Need-returns
 returns c = sym (refuse-later _ _ 0 (ap not (c .if1 .taken)))

@@ -17,7 +17,7 @@ use Rattle.rules.specs.Answers.{Outcome, number, refuse}
 use Rattle.rules.specs.Calls.{Call, refusal, refused, tested, call}
 use Rattle.rules.specs.Views.{View, view}
 use Rattle.rules.specs.declared.Refusal.{Refusal}
-use Rattle.verdicts.specs.declared.Verdict.{Verdict}
+use Rattle.refusals.specs.declared.Verdict.{Verdict}
 
 -- what a verdict says: the refusal's number, or 0
 abbrev pub told : Verdict → ℕ
@@ -52,6 +52,11 @@ over-not a b =
 
 -- ---- the first refusal of several tests
 
+-- a verdict that refuses stands before whatever the later tests give
+pub first-some : (v : Verdict) (k : ℕ) → told v ≡ k → (k ≡ 0 → ⊥) → (later : ℕ) → firstOf v later ≡ k
+first-some Verdict.Accepted k e n later = absurd (n (sym e))
+first-some (Verdict.Refused r) k e n later = e
+
 -- a verdict on one test, before the later ones
 pub first-refuse : (v : Verdict) (t : Bool) (r : Refusal) → told v ≡ refuse t r 0 → (later : ℕ) → firstOf v later ≡ refuse t r later
 unfolding refuse
@@ -59,15 +64,6 @@ first-refuse Verdict.Accepted true r e later = absurd (number-some r (sym e))
 first-refuse Verdict.Accepted false r e later = refl
 first-refuse (Verdict.Refused q) true r e later = e
 first-refuse (Verdict.Refused q) false r e later = absurd (number-some q e)
-
--- the first of two verdicts, before the later tests
-pub first-both : (v a b : Verdict) → told v ≡ firstOf a (told b) → (later : ℕ) → firstOf v later ≡ firstOf a (firstOf b later)
-first-both Verdict.Accepted Verdict.Accepted Verdict.Accepted e later = refl
-first-both Verdict.Accepted Verdict.Accepted (Verdict.Refused q) e later = absurd (number-some q (sym e))
-first-both Verdict.Accepted (Verdict.Refused q) b e later = absurd (number-some q (sym e))
-first-both (Verdict.Refused r) Verdict.Accepted Verdict.Accepted e later = absurd (number-some r e)
-first-both (Verdict.Refused r) Verdict.Accepted (Verdict.Refused q) e later = e
-first-both (Verdict.Refused r) (Verdict.Refused q) b e later = e
 
 -- a verdict on one test, and what the later ones give where it is passed
 pub first-then : (v : Verdict) {t u : Bool} (r : Refusal) {m n : ℕ} → told v ≡ refuse t r 0 → t ≡ u → (u ≡ false → m ≡ n) → firstOf v m ≡ refuse u r n

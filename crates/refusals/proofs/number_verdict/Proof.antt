@@ -1,7 +1,7 @@
 use native.Mathlib.Omega.{arith}
-use Rattle.verdicts.specs.Numbered.{number-applied, number-new}
-use Rattle.verdicts.proofs.number_verdict.Statement.{statement}
-use Rattle.verdicts.proofs.number_verdict.Tie as tie
+use Rattle.refusals.specs.Numbered.{number-applied, number-new}
+use Rattle.refusals.proofs.number_verdict.Statement.{statement}
+use Rattle.refusals.proofs.number_verdict.Tie as tie
 
 returns : tie.Need-returns
 returns c = number-applied _ _ (omega arith)

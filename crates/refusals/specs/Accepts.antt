@@ -17,8 +17,8 @@ use Rattle.laws.specs.Shapes.{shaped-true}
 use Rattle.laws.specs.Sounds.{sound-state}
 use Rattle.laws.specs.Kept.{Taken, refusal-taken}
 use Rattle.laws.specs.Refused.{tested-plain, call-refused, call-accepted}
-use Rattle.verdicts.specs.Refusals.{told, lentRefusal, roomed, lent-none}
-use Rattle.verdicts.specs.declared.Verdict.{Verdict}
+use Rattle.refusals.specs.Refusals.{told, lentRefusal, roomed, lent-none}
+use Rattle.refusals.specs.declared.Verdict.{Verdict}
 
 -- ---- a verdict looks at the answer buffer's length alone
 
@@ -59,14 +59,14 @@ module _ (c : Call) (s : Lent) (v : Verdict) (e : told v ≡ lentRefusal s) (f :
   plainly = tested-plain (refusal c) s (both .0) (both .1)
 
   -- the second verdict
-  module _ (w : Verdict) (r : ℕ) (g : told w ≡ r) (h : r ≡ refusal c (deviceOf s)) where
+  module _ (w : Verdict) (g : told w ≡ refusal c (deviceOf s)) where
     pub ready : w ≡ Verdict.Accepted → Ready c s
     ready i =
-        let z : refusal c (deviceOf s) ≡ 0 = sym (sym (ap told i) ∙ g ∙ h) in
+        let z : refusal c (deviceOf s) ≡ 0 = sym (sym (ap told i) ∙ g) in
         record { shape = ready-state .0; sound = ready-state .1; passes = plainly ∙ z; taken = refusal-taken c (deviceOf s) z }
 
     pub refuses : (t : Refusal) → w ≡ Verdict.Refused t → refused (number t) c s ≡ call c s
-    refuses t i = call-refused c s t (plainly ∙ sym (sym (ap told i) ∙ g ∙ h))
+    refuses t i = call-refused c s t (plainly ∙ sym (sym (ap told i) ∙ g))
 
 -- what an accepted call leaves
 pub accepts : (c : Call) (s : Lent) → Ready c s → (cs out : List ℕ) (t : Lent)
