@@ -1,4 +1,3 @@
 pub mod Trims
 pub mod Puts
 pub mod Writes
-pub mod Reclaims

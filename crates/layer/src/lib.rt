@@ -145,5 +145,5 @@ pub fn reclaim(
     if let Verdict::Refused(r) = w {
         return Listed::Refused(r, h);
     }
-    changes::empty_victim(h, ext, blk, spare, victim, out)
+    emptying::empty_victim(h, ext, blk, spare, victim, out)
 }

@@ -16,9 +16,9 @@ use Rattle.layer.specs.ByRule.{by-rule}
 use Rattle.layer.proofs.Calls.{fresh-words, FreshRight, freshly, fresh-right, write-words, writes, writes-to}
 use Rattle.layer.proofs.Calls.{trim-words, trims, trims-to, read-words, reads, reads-from, reclaim-words, reclaims, reclaims-in, report-words, reports-on}
 use Rattle.records.proofs.Calls.{record-words, reads-records, records-from}
-use Rattle.utasiro.specs.declared.Outcome.{Outcome}
-use Rattle.utasiro.specs.Said.{ofDone, ofListed, ofCounts}
-use Rattle.utasiro.specs.Told.{of-done-one, of-listed-one, counts-one}
+use Rattle.answers.specs.declared.Outcome.{Outcome}
+use Rattle.answers.specs.Said.{ofDone, ofListed, ofCounts}
+use Rattle.answers.specs.Told.{of-done-one, of-listed-one, counts-one}
 use Rattle.utasiro.proofs.utasiro_fresh.Kinds as Fresh
 use Rattle.utasiro.proofs.utasiro_fresh.Reads as fresh-contract
 use Rattle.utasiro.proofs.utasiro_write.Kinds as Write

@@ -1,36 +1,17 @@
 // What C and Rust call: each call of the layer, and the read over records, under its name in include/utasiro.h, with its answer as a struct
 // by value. The promises are theirs, through what a struct says. The borrow checker does not cover a function over `&[Extent]`, so
 // `utasiro_read_records` is proved by hand, and does nothing but hand on.
-use rules::Counted;
-use rules::Done;
+use answers::Counts;
+use answers::Outcome;
 use rules::Extent;
 use rules::Head;
-use rules::Listed;
 ghost use mathlib.Core.Path.{_≡_};
 ghost use mathlib.Core.List.{[]};
 ghost use Rattle.rules.specs.Lent.{lent};
 ghost use Rattle.rules.specs.Answers.{outcome};
 ghost use Rattle.rules.specs.Calls.{Call, call, fresh};
 ghost use Rattle.rules.specs.Extents.{flat};
-ghost use Rattle.utasiro.specs.Said.{ofDone, ofListed, ofCounts, saidDone, saidListed, saidCounts};
-
-// What fresh, write, trim, read and reclaim answer: the refusal's number, or 0; the count, 0 where there is none; the head.
-#[repr(C)]
-pub struct Outcome {
-    pub refusal: u32,
-    pub count: u32,
-    pub head: Head,
-}
-
-// What report answers.
-#[repr(C)]
-pub struct Counts {
-    pub refusal: u32,
-    pub free: u32,
-    pub live: u32,
-    pub stale: u32,
-    pub head: Head,
-}
+ghost use Rattle.answers.specs.Said.{ofDone, ofListed, ofCounts};
 
 // The version of this library, 0.1.0 as 100: ten thousand for each major one, a hundred for each minor one. A program compares it with the
 // UTASIRO_VERSION of the header that it was compiled with.
@@ -39,61 +20,6 @@ pub extern "C" fn utasiro_version() -> u32
     ensures { λ r. ⌜ r ≡ 100 ⌝ }
 {
     100
-}
-
-fn of_done(d: Done) -> Outcome
-    ensures { λ r. ⌜ saidDone r d ⌝ }
-{
-    match d {
-        Done::Accepted(h) => Outcome {
-            refusal: 0,
-            count: 0,
-            head: h,
-        },
-        Done::Refused(r, h) => Outcome {
-            refusal: words::number_of(r),
-            count: 0,
-            head: h,
-        },
-    }
-}
-
-fn of_listed(d: Listed) -> Outcome
-    ensures { λ r. ⌜ saidListed r d ⌝ }
-{
-    match d {
-        Listed::Accepted(k, h) => Outcome {
-            refusal: 0,
-            count: k,
-            head: h,
-        },
-        Listed::Refused(r, h) => Outcome {
-            refusal: words::number_of(r),
-            count: 0,
-            head: h,
-        },
-    }
-}
-
-fn of_counted(d: Counted) -> Counts
-    ensures { λ r. ⌜ saidCounts r d ⌝ }
-{
-    match d {
-        Counted::Accepted(f, l, s, h) => Counts {
-            refusal: 0,
-            free: f,
-            live: l,
-            stale: s,
-            head: h,
-        },
-        Counted::Refused(r, h) => Counts {
-            refusal: words::number_of(r),
-            free: 0,
-            live: 0,
-            stale: 0,
-            head: h,
-        },
-    }
 }
 
 #[no_mangle]
@@ -109,7 +35,7 @@ pub extern "C" fn utasiro_fresh(
     ensures { λ r. ⌜ (outcome (ofDone r) (now (ext .exit)) (now (blk .exit)) (now (spare .exit)) []
         ≡ fresh blocks pages logical slots (now (ext .entry)) (now (blk .entry)) (now (spare .entry))) × (r .count ≡ 0) ⌝ }
 {
-    of_done(layer::fresh(blocks, pages, logical, slots, ext, blk, spare))
+    answers::of_done(layer::fresh(blocks, pages, logical, slots, ext, blk, spare))
 }
 
 #[no_mangle]
@@ -126,7 +52,7 @@ pub extern "C" fn utasiro_write(
     ensures { λ r. ⌜ outcome (ofListed r) (now (ext .exit)) (now (blk .exit)) (now (spare .exit)) (now (out .exit))
         ≡ call (Call.write number l n (now (out .entry))) (lent h (now (ext .entry)) (now (blk .entry)) (now (spare .entry))) ⌝ }
 {
-    of_listed(layer::write(h, ext, blk, spare, number, l, n, out))
+    answers::of_listed(layer::write(h, ext, blk, spare, number, l, n, out))
 }
 
 #[no_mangle]
@@ -142,7 +68,7 @@ pub extern "C" fn utasiro_trim(
     ensures { λ r. ⌜ (outcome (ofDone r) (now (ext .exit)) (now (blk .exit)) (now (spare .entry)) []
         ≡ call (Call.trim number l n) (lent h (now (ext .entry)) (now (blk .entry)) (now (spare .entry)))) × (r .count ≡ 0) ⌝ }
 {
-    of_done(layer::trim(h, ext, blk, spare, number, l, n))
+    answers::of_done(layer::trim(h, ext, blk, spare, number, l, n))
 }
 
 #[no_mangle]
@@ -158,7 +84,7 @@ pub extern "C" fn utasiro_read(
     ensures { λ r. ⌜ outcome (ofListed r) (now (ext .entry)) (now (blk .entry)) (now (spare .entry)) (now (out .exit))
         ≡ call (Call.read l n (now (out .entry))) (lent h (now (ext .entry)) (now (blk .entry)) (now (spare .entry))) ⌝ }
 {
-    of_listed(layer::read(h, ext, blk, spare, l, n, out))
+    answers::of_listed(layer::read(h, ext, blk, spare, l, n, out))
 }
 
 #[no_mangle]
@@ -174,7 +100,7 @@ pub extern "C" fn utasiro_read_records(
     ensures { λ r. ⌜ outcome (ofListed r) (flat (now (recs .entry))) (now (blk .entry)) (now (spare .entry)) (now (out .exit))
         ≡ call (Call.read l n (now (out .entry))) (lent h (flat (now (recs .entry))) (now (blk .entry)) (now (spare .entry))) ⌝ }
 {
-    of_listed(records::read_records(h, recs, blk, spare, l, n, out))
+    answers::of_listed(records::read_records(h, recs, blk, spare, l, n, out))
 }
 
 #[no_mangle]
@@ -188,7 +114,7 @@ pub extern "C" fn utasiro_reclaim(
     ensures { λ r. ⌜ outcome (ofListed r) (now (ext .exit)) (now (blk .exit)) (now (spare .exit)) (now (out .exit))
         ≡ call (Call.reclaim (now (out .entry))) (lent h (now (ext .entry)) (now (blk .entry)) (now (spare .entry))) ⌝ }
 {
-    of_listed(layer::reclaim(h, ext, blk, spare, out))
+    answers::of_listed(layer::reclaim(h, ext, blk, spare, out))
 }
 
 #[no_mangle]
@@ -196,5 +122,5 @@ pub extern "C" fn utasiro_report(h: Head, ext: &[u32], blk: &[u32], spare: &[u32
     ensures { λ r. ⌜ outcome (ofCounts r) (now (ext .entry)) (now (blk .entry)) (now (spare .entry)) []
         ≡ call Call.report (lent h (now (ext .entry)) (now (blk .entry)) (now (spare .entry))) ⌝ }
 {
-    of_counted(layer::report(h, ext, blk, spare))
+    answers::of_counted(layer::report(h, ext, blk, spare))
 }

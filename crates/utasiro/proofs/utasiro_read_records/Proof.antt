@@ -29,9 +29,9 @@ use Rattle.rules.specs.Extents.{flat}
 use Rattle.rules.specs.declared.Listed.{Listed}
 use Rattle.rules.proofs.Listed as An
 use Rattle.rules.proofs.Listed.Laws as An′
-use Rattle.utasiro.specs.Said.{ofListed, saidListed, as-said}
-use Rattle.utasiro.proofs.Outcome as Out
-use Rattle.utasiro.proofs.Outcome.Laws as Out′
+use Rattle.answers.specs.Said.{ofListed, saidListed, as-said}
+use Rattle.answers.proofs.Outcome as Out
+use Rattle.answers.proofs.Outcome.Laws as Out′
 use Rattle.records.proofs.Asked.{Asked, spelled, told, at, Reads, typed}
 use Rattle.records.proofs.Direct.{Own, Walk, ends, meets, calls}
 use Rattle.records.proofs.Locals.{var, freed}
@@ -39,10 +39,10 @@ use Rattle.records.proofs.read_records as read
 use Rattle.records.proofs.read_records.Symbol as read-def
 use Rattle.records.proofs.read_records.Symbol.{name as #records·read-records}
 use Rattle.records.proofs.read_records.Met as read-thm
-use Rattle.utasiro.proofs.of_listed as of-listed
-use Rattle.utasiro.proofs.of_listed.Symbol as of-listed-def
-use Rattle.utasiro.proofs.of_listed.Symbol.{name as #utasiro·of-listed}
-use Rattle.utasiro.proofs.of_listed.Met as of-listed-thm
+use Rattle.answers.proofs.of_listed as of-listed
+use Rattle.answers.proofs.of_listed.Symbol as of-listed-def
+use Rattle.answers.proofs.of_listed.Symbol.{name as #answers·of-listed}
+use Rattle.answers.proofs.of_listed.Met as of-listed-thm
 use Rattle.utasiro.proofs.utasiro_read_records.Key.{name as #utasiro·utasiro-read-records}
 use Rattle.utasiro.proofs.utasiro_read_records as top
 use Rattle.utasiro.proofs.utasiro_read_records.Statement as stated
@@ -70,7 +70,7 @@ module _ {M : Type 1} (𝓤 : URA M) (H : Heap 𝓤) (A : Atoms 𝓤) (W : Given
   goes : (r : Listed) (u : Val) → ent 𝓤 (sem 𝓤 H A (An.the-row .own r (u ∷ []))) (OfListed 𝓤 H A mem run .pre (to-of 𝓤 H A mem run r u))
   goes r u = qed W (‵ (An.the-row .own r (u ∷ [])) ∷ []) ∵ nothing ! $ move ! (1 ∷ 0 ∷ []) $ fjoin ! $ nothing ! $ join ! $ frame ! $ done !
 
-  walk : Triple 𝓤 (𝓣 .C #records·read-records) (Read 𝓤 H A mem run) → Triple 𝓤 (𝓣 .C #utasiro·of-listed) (OfListed 𝓤 H A mem run) → (y : Top 𝓤 H A mem run .Ghost)
+  walk : Triple 𝓤 (𝓣 .C #records·read-records) (Read 𝓤 H A mem run) → Triple 𝓤 (𝓣 .C #answers·of-listed) (OfListed 𝓤 H A mem run) → (y : Top 𝓤 H A mem run .Ghost)
       → Walk 𝓤 H A top.ended (top.clauses 𝓤 H A mem run) spelled (WpFn 𝓤 H (𝓣 .C) (𝓣 .Λ) code.function) y
   walk known-read known-of y are =
       let κs = y .0 .0 in
@@ -102,7 +102,7 @@ module _ {M : Type 1} (𝓤 : URA M) (H : Heap 𝓤) (A : Atoms 𝓤) (W : Given
       keep ! (4 ∷ 0 ∷ 3 ∷ []) $ by ! (ends 𝓤 H A top.ended (top.clauses 𝓤 H A mem run) y W w o ws (Reads κs a (flat (a .1 .0 .now)) (ofListed o) (ws .1 .1 .1 .1 .1 .1 .0)) (id⊢ 𝓤 _)
       (as-said (ofListed o) (listed r) _ _ _ _ _ e₁ e)))))))))))))))
 
-  top-meets : Triple 𝓤 (𝓣 .C #records·read-records) (Read 𝓤 H A mem run) → Triple 𝓤 (𝓣 .C #utasiro·of-listed) (OfListed 𝓤 H A mem run)
+  top-meets : Triple 𝓤 (𝓣 .C #records·read-records) (Read 𝓤 H A mem run) → Triple 𝓤 (𝓣 .C #answers·of-listed) (OfListed 𝓤 H A mem run)
       → Meets 𝓤 H A top.signature (WpFn 𝓤 H (𝓣 .C) (𝓣 .Λ) code.function) (top.spec 𝓤 H A mem run)
   top-meets known-read known-of = meets 𝓤 H A top.ended (top.clauses 𝓤 H A mem run) spelled told (WpFn 𝓤 H (𝓣 .C) (𝓣 .Λ) code.function) (walk known-read known-of)
 
@@ -116,4 +116,4 @@ utasiro-read-records-spec 𝓤 H 𝓜 𝓖 𝓡 =
     entered 𝓤 H (tripleOf 𝓤 H (𝓖 .A) top.signature spec) (𝓣 .C) (𝓣 .Λ) #utasiro·utasiro-read-records code.function (code.unfolded 𝓤 H 𝓜 𝓡)
     (top-meets 𝓤 H (𝓖 .A) (givenOf 𝓤 H 𝓜 𝓖) (𝓜 .mem) (𝓡 .run) (tablesOf 𝓤 H 𝓜 𝓣)
     (cited 𝓤 H read 𝓜 𝓡 code.env #records·read-records read-def.routine code.calls-records·read-records (read-thm.met 𝓤 H 𝓜 𝓖 𝓡))
-    (cited 𝓤 H listed 𝓜 𝓡 code.env #utasiro·of-listed of-listed-def.routine code.calls-utasiro·of-listed (of-listed-thm.met 𝓤 H 𝓜 𝓖 𝓡)))
+    (cited 𝓤 H listed 𝓜 𝓡 code.env #answers·of-listed of-listed-def.routine code.calls-answers·of-listed (of-listed-thm.met 𝓤 H 𝓜 𝓖 𝓡)))

@@ -2,9 +2,9 @@ use borrow.Author.Needs.{needs}
 use native.Mathlib.Omega.{arith}
 use mathlib.Core.Path.{refl}
 use Rattle.rules.specs.Lent.{Lent, lent}
-use Rattle.changes.specs.Reclaims.{reclaim-walkable, reclaim-moves, reclaim-lists, reclaim-copied, reclaim-few, reclaim-answer}
-use Rattle.changes.proofs.empty_victim.Statement.{statement}
-use Rattle.changes.proofs.empty_victim.Tie as tie
+use Rattle.emptying.specs.Empties.{reclaim-walkable, reclaim-moves, reclaim-lists, reclaim-copied, reclaim-few, reclaim-answer}
+use Rattle.emptying.proofs.empty_victim.Statement.{statement}
+use Rattle.emptying.proofs.empty_victim.Tie as tie
 
 abbrev state : tie.Start → Lent
 state s = lent (s .args .h) (s .args .ext .now) (s .args .blk .now) (s .args .spare .now)

@@ -7,8 +7,8 @@ use Rattle.rules.specs.Answers.{Said, said, done, listed, counted, outcome, Out
 use Rattle.rules.specs.declared.Done.{Done}
 use Rattle.rules.specs.declared.Listed.{Listed}
 use Rattle.rules.specs.declared.Counted.{Counted}
-use Rattle.utasiro.specs.declared.Outcome.{Outcome}
-use Rattle.utasiro.specs.declared.Counts.{Counts}
+use Rattle.answers.specs.declared.Outcome.{Outcome}
+use Rattle.answers.specs.declared.Counts.{Counts}
 
 -- no count: the field is 0
 abbrev pub ofDone : Outcome → Said

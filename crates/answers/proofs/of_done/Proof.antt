@@ -3,8 +3,8 @@ use mathlib.Core.Path.{refl, sym, ap, _∙_}
 use mathlib.Core.List.{[]}
 use Rattle.rules.specs.Answers.{said, done}
 use borrow.Author.Needs.{needs}
-use Rattle.utasiro.proofs.of_done.Statement.{statement}
-use Rattle.utasiro.proofs.of_done.Tie as tie
+use Rattle.answers.proofs.of_done.Statement.{statement}
+use Rattle.answers.proofs.of_done.Tie as tie
 
 returns : tie.Need-returns
 returns c = (sym (ap done (c .before .d .given .1)), refl)

@@ -3,9 +3,9 @@ use Prim.Native.Nat.{ℕ}
 use mathlib.Core.Path.{_≡_, ap}
 use lib.ListN.{getD}
 use Rattle.rules.specs.Answers.{Said}
-use Rattle.utasiro.specs.declared.Outcome.{Outcome}
-use Rattle.utasiro.specs.declared.Counts.{Counts}
-use Rattle.utasiro.specs.Said.{ofDone, ofListed, ofCounts}
+use Rattle.answers.specs.declared.Outcome.{Outcome}
+use Rattle.answers.specs.declared.Counts.{Counts}
+use Rattle.answers.specs.Said.{ofDone, ofListed, ofCounts}
 
 -- the count at place i of what is said
 at : ℕ → Said → ℕ

@@ -3,8 +3,8 @@ use mathlib.Core.Path.{sym, ap, _∙_}
 use mathlib.Core.List.{[], _∷_}
 use Rattle.rules.specs.Answers.{said, counted}
 use borrow.Author.Needs.{needs}
-use Rattle.utasiro.proofs.of_counted.Statement.{statement}
-use Rattle.utasiro.proofs.of_counted.Tie as tie
+use Rattle.answers.proofs.of_counted.Statement.{statement}
+use Rattle.answers.proofs.of_counted.Tie as tie
 
 returns : tie.Need-returns
 returns c = sym (ap counted (c .before .d .given .1))
