@@ -1,21 +1,23 @@
-// What a trim and a write change once nothing refuses them. That nothing does is required here (`Cut`, `Ready`), with what was found on the way to it; the answer
+// What a trim and a write change once nothing refuses them. That nothing does is required here (`Ready`), with what was found on the way to it; the answer
 // and the words are promised as the rules give them.
 use map::Sides;
+use rules::Done;
 use rules::Head;
 use rules::Listed;
 use writable::Meeting;
 ghost use mathlib.Core.Path.{_≡_};
+ghost use mathlib.Core.List.{[]};
 ghost use Prim.Native.Nat.{_+_};
 ghost use Rattle.rules.specs.Lent.{lent, inUse};
-ghost use Rattle.rules.specs.Answers.{outcome, listed};
+ghost use Rattle.rules.specs.Answers.{outcome, done, listed};
 ghost use Rattle.rules.specs.Calls.{Call, call};
 ghost use Rattle.map.specs.Around.{Beside};
 ghost use Rattle.refusals.specs.Accepts.{Ready};
 ghost use Rattle.changes.specs.Trims.{Cut, Holed};
 ghost use Rattle.writable.specs.Meeting.{Meets};
 
-// The range, whose sides are given, becomes holes: a trim that nothing refuses, and the first part of a write. The extents in use afterwards.
-pub fn cut_range(
+// The range, whose sides are given, becomes holes: all that a trim does to the words, and the first part of a write. The extents in use afterwards.
+fn cut_range(
     h: Head,
     ext: &mut [u32],
     blk: &mut [u32],
@@ -30,6 +32,27 @@ pub fn cut_range(
     let used = h.used as usize;
     striking::lower(ext, used, sides.first, h.pages, l, l + n, blk);
     cutting::cut_out(ext, used, sides, l, l + n) as u32
+}
+
+// A trim that nothing refuses, of a range with these sides.
+pub fn make_holes(
+    h: Head,
+    ext: &mut [u32],
+    blk: &mut [u32],
+    spare: &[u32],
+    sides: Sides,
+    number: u64,
+    l: u32,
+    n: u32,
+) -> Done
+    requires { ⌜ Ready (Call.trim number l n) (lent h (now ext) (now blk) (now spare)) × Beside l (l + n) (inUse (lent h (now ext) (now blk) (now spare))) sides ⌝ }
+    ensures { λ r. ⌜ outcome (done r) (now (ext .exit)) (now (blk .exit)) (now (spare .entry)) [] ≡ call (Call.trim number l n) (lent h (now (ext .entry)) (now (blk .entry)) (now (spare .entry))) ⌝ }
+{
+    let used = cut_range(h, ext, blk, spare, sides, l, n);
+    let mut after = h;
+    after.used = used;
+    after.last = words::kept(number);
+    Done::Accepted(after)
 }
 
 // A write that nothing refuses and that meets the extents so: the range is cut out, the pages are placed, and the pieces are put in.

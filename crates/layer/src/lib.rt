@@ -88,11 +88,7 @@ pub fn trim(
     if let Verdict::Refused(r) = w {
         return Done::Refused(r, h);
     }
-    let used = changes::cut_range(h, ext, blk, spare, sides, l, n);
-    let mut g = h;
-    g.used = used;
-    g.last = words::kept(number);
-    Done::Accepted(g)
+    changes::make_holes(h, ext, blk, spare, sides, number, l, n)
 }
 
 pub fn write(

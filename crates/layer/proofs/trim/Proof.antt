@@ -1,6 +1,5 @@
 use borrow.Author.Needs.{needs}
 use mathlib.Core.Path.{_≡_, _∙_}
-use mathlib.Core.List.{[]}
 use native.Mathlib.Omega.{arith}
 use Rattle.rules.specs.Lent.{Lent, lent}
 use Rattle.rules.specs.Device.{deviceOf}
@@ -8,9 +7,7 @@ use Rattle.rules.specs.Calls.{Call, refusal, refused}
 use Rattle.laws.specs.Sound.{Shaped, SoundState}
 use Rattle.refusals.specs.Refusals.{told, lent-refuses}
 use Rattle.map.specs.Sound.{rows-sound}
-use Rattle.refusals.specs.Accepts.{Ready, trim-refusal, ready-state, ready, refuses, accepts}
-use Rattle.changes.specs.Trims.{trim-cut, trim-leaves, trim-counts, trim-lists}
-use Rattle.refusals.specs.declared.Verdict.{Verdict}
+use Rattle.refusals.specs.Accepts.{trim-refusal, ready-state, ready, refuses}
 use Rattle.layer.proofs.trim.Statement.{statement}
 use Rattle.layer.proofs.trim.Tie as tie
 
@@ -32,13 +29,6 @@ judged : (w : tie.After-trim-verdict) → let s = start (w .before .before .befo
 judged w =
     let s = start (w .before .before .before .before .before) in
     w .trim-verdict .ensures ∙ trim-refusal (s .args .number) (s .args .l) (s .args .n) (deviceOf (state s))
-
-accepted : (w : tie.After-trim-verdict) → w .trim-verdict .result ≡ Verdict.Accepted → let s = start (w .before .before .before .before .before) in Ready (asks s) (state s)
-accepted w e =
-    let t = w .before .before .before in
-    let v = t .before .before in
-    let s = start v in
-    ready (asks s) (state s) _ (v .lent-verdict .ensures) (t .enum-told .given .1) _ (judged w) e
 
 returns : tie.Need-returns
 unfolding refused
@@ -64,29 +54,21 @@ returns-2 c =
     let s = start v in
     refuses (asks s) (state s) _ (v .lent-verdict .ensures) (t .enum-told .given .1) _ (judged w) (c .before .w .given .0 .0) (c .before .w .given .1)
 
-cut-range-requires : tie.Need-cut-range-requires
-cut-range-requires c κs =
+make-holes-requires : tie.Need-make-holes-requires
+make-holes-requires c κs =
     let passed = c .before .before in
     let w = passed .before .before in
-    let s = start (w .before .before .before .before .before) in
-    (trim-cut (s .args .number) (s .args .l) (s .args .n) (state s) (accepted w (passed .enum-told2 .given .1)), w .before .around .ensures)
+    let t = w .before .before .before in
+    let v = t .before .before in
+    let s = start v in
+    (ready (asks s) (state s) _ (v .lent-verdict .ensures) (t .enum-told .given .1) _ (judged w) (passed .enum-told2 .given .1), w .before .around .ensures)
 
 returns-3 : tie.Need-returns-3
-returns-3 c =
-    let cut = c .before .before .before .before .before in
-    let passed = cut .before .before .before in
-    let w = passed .before .before in
-    let s = start (w .before .before .before .before .before) in
-    let a = s .args in
-    let z = accepted w (passed .enum-told2 .given .1) in
-    accepts (asks s) (state s) z [] [] _
-    (trim-counts (a .number) (a .l) (a .n) (state s) z)
-    (trim-leaves (a .number) (a .l) (a .n) (state s) z _ _ _ _ (cut .cut-range .ensures) (c .kept .ensures))
-    (trim-lists (a .number) (a .l) (a .n) (state s) z)
+returns-3 c = c .before .before .before .before .make-holes .ensures
 
 pub trim-spec : {M : Type 1} → statement M
 trim-spec =
     tie.close
     (tie.spec (λ c κs. search needs) (λ c. search needs) (λ c. search needs) (λ c. search needs) returns (λ c. search needs) (λ c. search needs)
     around-requires trim-verdict-requires (λ c. search needs) (λ c. search needs) (λ c. search needs) returns-2 (λ c. search needs)
-    cut-range-requires (λ c κs. search needs) (λ c. search needs) (λ c. search needs) returns-3)
+    make-holes-requires (λ c. search needs) (λ c. search needs) returns-3)
