@@ -46,7 +46,8 @@ pub fn make_holes(
     n: u32,
 ) -> Done
     requires { ⌜ Ready (Call.trim number l n) (lent h (now ext) (now blk) (now spare)) × Beside l (l + n) (inUse (lent h (now ext) (now blk) (now spare))) sides ⌝ }
-    ensures { λ r. ⌜ outcome (done r) (now (ext .exit)) (now (blk .exit)) (now (spare .entry)) [] ≡ call (Call.trim number l n) (lent h (now (ext .entry)) (now (blk .entry)) (now (spare .entry))) ⌝ }
+    ensures { λ r. ⌜ outcome (done r) (now (ext .exit)) (now (blk .exit)) (now (spare .entry)) []
+        ≡ call (Call.trim number l n) (lent h (now (ext .entry)) (now (blk .entry)) (now (spare .entry))) ⌝ }
 {
     let used = cut_range(h, ext, blk, spare, sides, l, n);
     let mut after = h;

@@ -61,9 +61,9 @@ device3 = record {
 abbrev sound3 : Lent
 sound3 = wordsOf device3
 
--- and before the last of its writes
-abbrev sound6 : Lent
-sound6 = wordsOf record {
+-- and the state before the last of P3's writes
+abbrev nearly3 : Lent
+nearly3 = wordsOf record {
   pages = 16;
   slots = 16;
   table = 0 ∷ 1 ∷ none ∷ none ∷ 2 ∷ none ∷ 7 ∷ 10 ∷ none ∷ none ∷ 3 ∷ 8 ∷ 9 ∷ 6 ∷ replicate 18 none;
@@ -134,8 +134,9 @@ pub record Met : Type 0 where
   pub page-again : trace (write 1 0 1 (10 ∷ []) ∷ write 2 0 1 (20 ∷ []) ∷ reclaim ∷ write 3 0 1 (30 ∷ []) ∷ reclaim ∷ write 4 0 1 (40 ∷ []) ∷ []) (started 3 1 1 1)
       ≡ Op.program 0 10 ∷ Op.program 1 20 ∷ Op.erase 0 ∷ Op.program 2 30 ∷ Op.erase 1 ∷ Op.program 0 40 ∷ []
   -- demands 2 and 3 and the double refund, from a sound state on flash that is erased from each fill on: the one that P3 leaves
-  pub is-near : sameBy eqb (wordsIn (run (take 6 p3) (started 4 16 32 16) .state)) (wordsIn sound6) ≡ true
-  pub is-left : sameBy eqb (wordsIn (run (drop 6 p3) (begin sound6 blank) .state)) (wordsIn sound3) ≡ true
+  pub is-near : sameBy eqb (wordsIn (run (take 6 p3) (started 4 16 32 16) .state)) (wordsIn nearly3) ≡ true
+  pub near-sound : (shaped nearly3 ≡ true) × (sound nearly3 ≡ true)
+  pub is-left : sameBy eqb (wordsIn (run (drop 6 p3) (begin nearly3 blank) .state)) (wordsIn sound3) ≡ true
   pub is-shaped : shaped sound3 ≡ true
   pub is-sound : sound sound3 ≡ true
   pub is-erased : ErasedFromFill sound3 blank
@@ -152,10 +153,10 @@ pub record Met : Type 0 where
   pub one-reclaim : times 3 tens (begin sound3 blank) ≡ 1
   pub enough : LongEnough (Call.write 8 0 7 (replicate 3 0)) (until 3 tens (begin sound3 blank) .state)
   -- the double refund: the last request of P3 carries a number and is accepted; of P4's requests three repeat; a state whose last number is the largest
-  pub accepted : call (Call.write 7 9 1 (replicate 48 0)) sound6 .refusal ≡ 0
+  pub accepted : call (Call.write 7 9 1 (replicate 48 0)) nearly3 .refusal ≡ 0
   pub carried : carries (Call.write 7 9 1 (replicate 48 0)) ≡ true
   pub largest : (shaped worn ≡ true) × (sound worn ≡ true) × (worn .head .last .number ≡ 2 ^ 64 - 1) × (given (Call.write 7 0 1 []) worn Refusal.Range ≡ false)
-  pub repeated : once [] (drop 6 p3 ++ p4) (begin sound6 blank) ≡ write 7 9 1 [] ∷ reclaim ∷ write 8 0 1 [] ∷ []
+  pub repeated : once [] (drop 6 p3 ++ p4) (begin nearly3 blank) ≡ write 7 9 1 [] ∷ reclaim ∷ write 8 0 1 [] ∷ []
   -- T-12: something is stale in the sound state; in a damaged one 6 would apply, were it not for the 2 before it
   pub some-stale : given (Call.reclaim []) sound3 Refusal.NothingStale ≡ false
   pub six-if-damaged : (shaped over-the-edge ≡ true) × (sound over-the-edge ≡ false)
@@ -170,6 +171,7 @@ met = record {
   fresh-accepted = refl;
   page-again = refl;
   is-near = refl;
+  near-sound = (refl, refl);
   is-left = refl;
   is-shaped = refl;
   is-sound = refl;
