@@ -1,17 +1,20 @@
--- One block after the other: rule 3 for its fill and spare entries, and rule 5 against a tally of its mapped pages.
+-- One block after the other: rule 3 for its fill and spare entries; and rule 5 against a tally of its mapped pages.
 use Prim.Native.Nat.{ℕ, _+_, _-_, _*_, _≤_, _<_}
 use mathlib.Core.Bool.{Bool, true, false, not}
 use mathlib.Core.Path.{_≡_, refl, sym, ap, _∙_}
 use mathlib.Core.List.{List}
 use native.Mathlib.Omega.{arith}
 use borrow.Author.Count.{below-more}
+use borrow.Author.Tests.{eqb-true, eq-eqb}
+use lib.Bits.{bitOr, bitXor}
 use lib.Dec.{ltb, eqb}
 use lib.ListN.{length, getD, take, drop}
 use Rattle.rules.specs.Counting.{all}
 use Rattle.rules.specs.Blocks.{stride, fillWord, validWord}
 use Rattle.rules.specs.Extents.{none}
 use Rattle.laws.specs.Cells.{block-le}
-use Rattle.words.specs.Says.{Says, says-for, told-no, told-yes}
+use Rattle.words.specs.Says.{Says, says-for, says-all, told-no, told-yes}
+use Rattle.words.specs.Scan.{scan-bits, scan-end}
 use Rattle.words.specs.Scans.{Part, part-mid, part-front, part-word, same-says, below-says}
 
 -- rule 3, of a block's fill and the spare entries of its pages
@@ -48,19 +51,18 @@ module _ (fill top : ℕ) (part : List ℕ) (h : fill ≤ length part) where
 -- ---- the blocks
 
 -- what they are tested on
-pub record Framed (blk spare tally : List ℕ) (blocks n : ℕ) : Type 0 where
+pub record Framed (blk spare : List ℕ) (blocks n top : ℕ) : Type 0 where
   pub records : length blk ≡ stride * blocks
   pub spares : length spare ≡ blocks * n
-  pub wide : blocks ≤ length tally
+  pub lines : 0 < top
 
--- rules 3 and 5 for block b
-pub record Block (blk spare tally : List ℕ) (n top b : ℕ) : Type 0 where
+-- rule 3 for block b
+pub record Block (blk spare : List ℕ) (n top b : ℕ) : Type 0 where
   pub full : fillWord blk b ≤ n
   pub labels : (o : ℕ) → o < fillWord blk b → getD spare (b * n + o) none < top
   pub blank : (o : ℕ) → fillWord blk b ≤ o → o < n → getD spare (b * n + o) none ≡ none
-  pub counts : validWord blk b ≡ getD tally b 0
 
-module _ {blk spare tally : List ℕ} {blocks n b : ℕ} (h : Framed blk spare tally blocks n) (s : b < blocks) where
+module _ {blk spare : List ℕ} {blocks n top b : ℕ} (h : Framed blk spare blocks n top) (s : b < blocks) where
   pub block-ends : b * n + n ≤ length spare
   block-ends = omega (arith, h .spares, block-le n b blocks s)
 
@@ -68,32 +70,49 @@ module _ {blk spare tally : List ℕ} {blocks n b : ℕ} (h : Framed blk spare t
   own = part-mid (b * n) (b * n + n) n spare refl block-ends
 
   -- as the test of its part of the spare area puts it, with f its fill
-  pub block-labels : (top f : ℕ) → f ≡ fillWord blk b → Block blk spare tally n top b → Labels f top (take (b * n + n - b * n) (drop (b * n) spare))
-  block-labels top f e g = record {
+  pub block-labels : (f : ℕ) → f ≡ fillWord blk b → Block blk spare n top b → Labels f top (take (b * n + n - b * n) (drop (b * n) spare))
+  block-labels f e g = record {
     full = omega (arith, own .long, g .full);
     labels = λ o t. omega (arith, g .labels o (omega arith), part-word own o none (omega (arith, g .full)));
     blank = λ o t u. part-word own o none (omega (arith, own .long)) ∙ g .blank o (omega arith) (omega (arith, own .long));
   }
 
-  pub labels-block : (top f : ℕ) → f ≡ fillWord blk b → Labels f top (take (b * n + n - b * n) (drop (b * n) spare)) → validWord blk b ≡ getD tally b 0 → Block blk spare tally n top b
-  labels-block top f e g v = record {
+  pub labels-block : (f : ℕ) → f ≡ fillWord blk b → Labels f top (take (b * n + n - b * n) (drop (b * n) spare)) → Block blk spare n top b
+  labels-block f e g = record {
     full = omega (arith, own .long, g .full);
     labels = λ o t. omega (arith, g .labels o (omega arith), part-word own o none (omega (arith, own .long, g .full)));
     blank = λ o t u. sym (part-word own o none u) ∙ g .blank o (omega arith) (omega (arith, own .long));
-    counts = v;
   }
 
 -- the loop: the blocks before b are right
-pub record Passed (blk spare tally : List ℕ) (blocks n top b : ℕ) : Type 0 where
+pub record Passed (blk spare : List ℕ) (blocks n top b : ℕ) : Type 0 where
   pub within : b ≤ blocks
-  pub each : (k : ℕ) → k < b → Block blk spare tally n top k
+  pub each : (k : ℕ) → k < b → Block blk spare n top k
 
-module _ {blk spare tally : List ℕ} {blocks n top : ℕ} where
-  pub passed-start : Passed blk spare tally blocks n top 0
+module _ {blk spare : List ℕ} {blocks n top : ℕ} where
+  pub passed-start : Passed blk spare blocks n top 0
   passed-start = record { within = omega arith; each = λ k s. absurd (omega arith) }
 
-  pub passed-step : (b : ℕ) → Passed blk spare tally blocks n top b → b < blocks → Block blk spare tally n top b → Passed blk spare tally blocks n top (b + 1)
+  pub passed-step : (b : ℕ) → Passed blk spare blocks n top b → b < blocks → Block blk spare n top b → Passed blk spare blocks n top (b + 1)
   passed-step b p s g = record { within = omega arith; each = below-more _ _ (p .each) g }
 
-  pub passed-end : (b : ℕ) → Passed blk spare tally blocks n top b → blocks ≤ b → (k : ℕ) → k < blocks → Block blk spare tally n top k
+  pub passed-end : (b : ℕ) → Passed blk spare blocks n top b → blocks ≤ b → (k : ℕ) → k < blocks → Block blk spare n top k
   passed-end b p s k t = p .each k (omega arith)
+
+-- ---- rule 5
+
+-- block b's valid count is its place in the tally
+unfoldable pub tallied : List ℕ → List ℕ → ℕ → Bool
+tallied blk tally b = eqb (validWord blk b) (getD tally b 0)
+
+pub valid-step : (blk tally : List ℕ) (b off v : ℕ) → v ≡ validWord blk b → eqb off 0 ≡ all b (tallied blk tally)
+    → eqb (bitOr off (bitXor v (getD tally b 0))) 0 ≡ all (b + 1) (tallied blk tally)
+unfolding tallied
+valid-step blk tally b off v e h = scan-bits b (tallied blk tally) off v (getD tally b 0) h (ap (λ (w : ℕ). eqb w (getD tally b 0)) (sym e))
+
+pub valid-says : (blk tally : List ℕ) (blocks b off : ℕ) → b ≡ blocks → eqb off 0 ≡ all b (tallied blk tally)
+    → Says (eqb off 0) ((k : ℕ) → k < blocks → validWord blk k ≡ getD tally k 0)
+unfolding tallied
+valid-says blk tally blocks b off e h =
+    says-all (eqb off 0) blocks (tallied blk tally) (λ k. validWord blk k ≡ getD tally k 0) (scan-end b blocks (tallied blk tally) (eqb off 0) h e)
+    (λ k s t. eqb-true (validWord blk k) (getD tally k 0) t) (λ k s t. eq-eqb (validWord blk k) (getD tally k 0) t)

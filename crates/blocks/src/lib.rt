@@ -2,13 +2,16 @@
 // have in each block. And what the records of a sound state come to: free, live and stale.
 use rules::Head;
 ghost use mathlib.Core.Path.{_≡_};
-ghost use Prim.Native.Nat.{ℕ, _<_, _≤_};
+ghost use Prim.Native.Nat.{ℕ, _*_, _<_, _≤_};
+ghost use lib.ListN.{length, getD};
+ghost use Rattle.rules.specs.Blocks.{stride, validWord};
 ghost use Rattle.words.specs.Says.{Says};
 ghost use Rattle.blocks.specs.Block.{Labels, Framed, Block};
 ghost use Rattle.blocks.specs.Totals.{Filled, Totalled, roomLeft};
 
 // Rule 3 for one block: its fill, and the spare entries of its pages.
 fn block_ok(fill: u32, part: &[u32], top: u32) -> bool
+    requires { ⌜ 0 < top ⌝ }
     ensures { λ r. ⌜ Says r (Labels fill top (now (part .entry))) ⌝ }
 {
     let f = fill as usize;
@@ -21,17 +24,10 @@ fn block_ok(fill: u32, part: &[u32], top: u32) -> bool
     words::all_are(&part[f..], 4294967295)
 }
 
-// Rules 3 and 5 for every block.
-pub fn blocks_ok(
-    blk: &[u32],
-    spare: &[u32],
-    blocks: usize,
-    n: usize,
-    top: u32,
-    tally: &[u32],
-) -> bool
-    requires { ⌜ Framed (now blk) (now spare) (now tally) blocks n ⌝ }
-    ensures { λ r. ⌜ Says r ((b : ℕ) → b < blocks → Block (now (blk .entry)) (now (spare .entry)) (now (tally .entry)) n top b) ⌝ }
+// Rule 3 for every block.
+pub fn labels_ok(blk: &[u32], spare: &[u32], blocks: usize, n: usize, top: u32) -> bool
+    requires { ⌜ Framed (now blk) (now spare) blocks n top ⌝ }
+    ensures { λ r. ⌜ Says r ((b : ℕ) → b < blocks → Block (now (blk .entry)) (now (spare .entry)) n top b) ⌝ }
 {
     let mut b: usize = 0;
     while b < blocks {
@@ -40,12 +36,23 @@ pub fn blocks_ok(
         if !block_ok(words::fill_of(blk, b), &spare[from..to], top) {
             return false;
         }
-        if words::valid_of(blk, b) != tally[b] {
-            return false;
-        }
         b += 1;
     }
     true
+}
+
+// Rule 5 for every block, against a tally of its mapped pages. There is no exit, so that it vectorises.
+pub fn valid_ok(blk: &[u32], tally: &[u32], blocks: usize) -> bool
+    requires { ⌜ (length (now blk) ≡ stride * blocks) × (blocks ≤ length (now tally)) ⌝ }
+    ensures { λ r. ⌜ Says r ((b : ℕ) → b < blocks → validWord (now (blk .entry)) b ≡ getD (now (tally .entry)) b 0) ⌝ }
+{
+    let mut off: u32 = 0;
+    let mut b: usize = 0;
+    while b < blocks {
+        off = off | (words::valid_of(blk, b) ^ tally[b]);
+        b += 1;
+    }
+    off == 0
 }
 
 pub struct Totals {

@@ -85,6 +85,7 @@ fn head_ok(h: Head, ext: &[u32], blk: &[u32]) -> bool
     words::all_are(&ext[from..], 0)
 }
 
+// The head, then rule 3, then the slots and the pages that they have in each block, then rule 5.
 pub fn is_sound(h: Head, ext: &[u32], blk: &[u32], spare: &[u32]) -> bool
     requires { ⌜ shape h (length (now ext)) (length (now blk)) (length (now spare)) ≡ true ⌝ }
     ensures { λ r. ⌜ r ≡ sound (lent h (now (ext .entry)) (now (blk .entry)) (now (spare .entry))) ⌝ }
@@ -92,25 +93,12 @@ pub fn is_sound(h: Head, ext: &[u32], blk: &[u32], spare: &[u32]) -> bool
     if !head_ok(h, ext, blk) {
         return false;
     }
-    let mut tally = [0u32; 1024];
-    if !slots::walk(
-        ext,
-        blk,
-        spare,
-        h.used as usize,
-        h.blocks,
-        h.pages,
-        h.logical,
-        &mut tally,
-    ) {
+    if !blocks::labels_ok(blk, spare, h.blocks as usize, h.pages as usize, h.logical) {
         return false;
     }
-    blocks::blocks_ok(
-        blk,
-        spare,
-        h.blocks as usize,
-        h.pages as usize,
-        h.logical,
-        &tally,
-    )
+    let mut tally = [0u32; 1024];
+    if !slots::walk(ext, spare, h.used as usize, h.pages, &mut tally) {
+        return false;
+    }
+    blocks::valid_ok(blk, &tally, h.blocks as usize)
 }

@@ -4,11 +4,11 @@ use mathlib.Core.Bool.{Bool, true, false, _&&_, and-true, and-false}
 use mathlib.Core.Path.{_≡_, refl, sym, _∙_, ap, ap₂}
 use native.Mathlib.Numerals.{add-one}
 use native.Mathlib.Omega.{arith}
-use borrow.Author.Tests.{eqb-true, eqb-false, ne-eqb}
+use borrow.Author.Tests.{eqb-true, eq-eqb}
 use lib.Dec.{eqb}
 use lib.Bits.{bitOr, bitXor, or-add-and, xor-add-and, xor-self, and-le-l, and-le-r, or-zero-r}
 use Rattle.rules.specs.Counting.{all}
-use Rattle.laws.specs.Bools.{cases}
+use Rattle.laws.specs.Bools.{same-test, and-split, and-join}
 
 pub scan-none : (t : ℕ → Bool) → true ≡ all 0 t
 unfolding all
@@ -35,14 +35,20 @@ or-none a b e = (omega (arith, or-add-and a b, and-le-r a b), omega (arith, or-a
 xor-none : (a b : ℕ) → bitXor a b ≡ 0 → a ≡ b
 xor-none a b e = omega (arith, xor-add-and a b, and-le-l a b, and-le-r a b)
 
-differs : (a w y : ℕ) → eqb (bitOr a (bitXor w y)) 0 ≡ (eqb a 0 && eqb w y)
-differs a w y =
-    cases (eqb w y)
-    (λ e. ap (λ (x : ℕ). eqb (bitOr a x) 0) (ap (bitXor w) (sym (eqb-true w y e)) ∙ xor-self w)
-    ∙ ap (λ (x : ℕ). eqb x 0) (or-zero-r a)
-    ∙ sym (ap (λ (x : Bool). eqb a 0 && x) e ∙ and-true (eqb a 0)))
-    (λ e. ne-eqb (bitOr a (bitXor w y)) 0 (λ g. eqb-false w y e (xor-none w y (or-none a (bitXor w y) g .1)))
-    ∙ sym (ap (λ (x : Bool). eqb a 0 && x) e ∙ and-false (eqb a 0)))
+both-none : (a x : ℕ) → eqb (bitOr a x) 0 ≡ (eqb a 0 && eqb x 0)
+both-none a x =
+    same-test (eqb (bitOr a x) 0) (eqb a 0 && eqb x 0)
+    (λ t. let n = or-none a x (eqb-true (bitOr a x) 0 t) in and-join (eqb a 0) (eqb x 0) (eq-eqb a 0 (n .0)) (eq-eqb x 0 (n .1)))
+    (λ t. let s = and-split (eqb a 0) (eqb x 0) t in eq-eqb (bitOr a x) 0 (ap₂ bitOr (eqb-true a 0 (s .0)) (eqb-true x 0 (s .1)) ∙ or-zero-r 0))
+
+pub same-bits : (w y : ℕ) → eqb (bitXor w y) 0 ≡ eqb w y
+same-bits w y =
+    same-test (eqb (bitXor w y) 0) (eqb w y)
+    (λ t. eq-eqb w y (xor-none w y (eqb-true (bitXor w y) 0 t)))
+    (λ t. eq-eqb (bitXor w y) 0 (ap (bitXor w) (sym (eqb-true w y t)) ∙ xor-self w))
+
+pub scan-or : (n : ℕ) (t : ℕ → Bool) (a x : ℕ) → eqb a 0 ≡ all n t → t n ≡ eqb x 0 → eqb (bitOr a x) 0 ≡ all (n + 1) t
+scan-or n t a x h e = both-none a x ∙ ap₂ (λ (b c : Bool). b && c) h (sym e) ∙ sym (scan-next n t)
 
 pub scan-bits : (n : ℕ) (t : ℕ → Bool) (a w y : ℕ) → eqb a 0 ≡ all n t → t n ≡ eqb w y → eqb (bitOr a (bitXor w y)) 0 ≡ all (n + 1) t
-scan-bits n t a w y h e = differs a w y ∙ ap₂ (λ (b c : Bool). b && c) h (sym e) ∙ sym (scan-next n t)
+scan-bits n t a w y h e = scan-or n t a (bitXor w y) h (e ∙ sym (same-bits w y))

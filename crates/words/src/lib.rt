@@ -141,14 +141,16 @@ pub fn all_are(ws: &[u32], x: u32) -> bool
     off == 0
 }
 
-// Every word is below top.
+// Every word is below top: none is above the last word below it, which is the compare that vectors have.
 pub fn all_below(ws: &[u32], top: u32) -> bool
+    requires { ⌜ 0 < top ⌝ }
     ensures { λ r. ⌜ r ≡ all (length (now (ws .entry))) (λ k. ltb (getD (now (ws .entry)) k 0) top) ⌝ }
 {
+    let last = top - 1;
     let mut ok = true;
     let mut k: usize = 0;
     while k < ws.len() {
-        if ws[k] >= top {
+        if last < ws[k] {
             ok = false;
         }
         k += 1;

@@ -12,10 +12,10 @@ use Rattle.words.proofs.all_below.Statement.{statement}
 use Rattle.words.proofs.all_below.Tie as tie
 
 abbrev Inv-loop : tie.InvT-loop
-Inv-loop ws top ok₀ k₀ ok k = (k ≤ length ws) × (ok ≡ all k (λ i. ltb (getD ws i 0) top))
+Inv-loop ws top last ok₀ k₀ ok k = (k ≤ length ws) × (ok ≡ all k (λ i. ltb (getD ws i 0) top))
 
 abbrev μ-loop : tie.MeasureT-loop
-μ-loop ws top ok₀ k₀ ok k = length ws - k
+μ-loop ws top last ok₀ k₀ ok k = length ws - k
 
 loop-holds : tie.Need-loop-holds Inv-loop μ-loop
 loop-holds c = (search needs, scan-none _)
@@ -37,5 +37,5 @@ returns c = scan-end _ _ _ _ (c .before .loop .inv .1) (omega arith)
 pub all-below-spec : {M : Type 1} → statement M
 all-below-spec =
     tie.close
-    (tie.spec Inv-loop μ-loop loop-holds (λ c. search needs) (λ c. search needs) (λ c. search needs) (λ c. search needs) loop-again
+    (tie.spec Inv-loop μ-loop (λ c. search needs) loop-holds (λ c. search needs) (λ c. search needs) (λ c. search needs) (λ c. search needs) loop-again
     returns)
