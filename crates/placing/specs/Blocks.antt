@@ -9,7 +9,7 @@ use lib.ListN.{length}
 use Rattle.rules.specs.Blocks.{stride, fillWord, validWord, HasBlock, blockAt, putBlock}
 use Rattle.rules.specs.declared.BlockRecord.{BlockRecord}
 use Rattle.laws.specs.Records.{block-path, put-block-length, put-block-here, put-block-else, put-block-same}
-use Rattle.laws.specs.Spread.{taken, filled}
+use Rattle.laws.specs.Spread.{taken, filled, taken-le}
 
 -- the record of block b with m pages more, each of them mapped
 abbrev pub more : ℕ → BlockRecord → BlockRecord
@@ -106,6 +106,14 @@ module _ (n reserve : ℕ) where
       let m = taken n reserve b (fillWord blk b) want in
       let w : want - m ≡ want = omega arith in
       ap₂ (λ (x : ℕ) (ws : List ℕ). raises n reserve k (b + 1) x ws) w (raised-none m b blk e)
+
+  -- of no pages no block takes any
+  pub raises-nothing : (k b : ℕ) (blk : List ℕ) → raises n reserve k b 0 blk ≡ blk
+  unfolding raises
+  raises-nothing zero b blk = refl
+  raises-nothing (suc k) b blk =
+      let m = taken-le n reserve b (fillWord blk b) 0 in
+      raises-none k b 0 blk (omega arith) ∙ raises-nothing k (b + 1) blk
 
   -- blocks that take nothing are passed over
   pub raises-skipped : (k want blocks : ℕ) (blk : List ℕ) → k ≤ blocks → ((j : ℕ) → j < k → taken n reserve j (fillWord blk j) want ≡ 0)

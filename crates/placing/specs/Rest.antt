@@ -10,7 +10,7 @@ use Rattle.rules.specs.Extents.{extent}
 use Rattle.rules.specs.Blocks.{fillWord}
 use Rattle.rules.specs.declared.Extent.{Extent}
 use Rattle.laws.specs.Cells.{block-le}
-use Rattle.laws.specs.Spread.{taken, withPiece, spread, spread-skip, spread-some, spread-length, tabulate-each}
+use Rattle.laws.specs.Spread.{taken, taken-le, withPiece, spread, spread-skip, spread-some, spread-length, tabulate-each}
 use Rattle.placing.specs.Bare.{fillsOf}
 use Rattle.placing.specs.Blocks.{fillsFrom}
 
@@ -31,6 +31,14 @@ fills-all k blk =
 pub page-small : (blocks n b f : ℕ) → b < blocks → blocks ≤ 1024 → n ≤ 256 → f ≤ n → b * n + f ≤ 262144
 page-small blocks n b f h s t g = omega (arith, block-le n b blocks h, mul-le-mul {n₁ = blocks} {m₁ = n} {n₂ = 1024} {m₂ = 256} s t)
 
+-- of no pages there are no pieces
+spread-nothing : (n reserve : ℕ) (fs : List ℕ) (b l : ℕ) → spread n reserve fs b l 0 ≡ []
+unfolding spread
+spread-nothing n reserve [] b l = refl
+spread-nothing n reserve (f ∷ fs) b l =
+    let m = taken-le n reserve b f 0 in
+    spread-skip n reserve f fs b l 0 (omega arith) ∙ spread-nothing n reserve fs (b + 1) l
+
 module _ (n reserve blocks : ℕ) (blk : List ℕ) where
   unfoldable pub rest : ℕ → ℕ → ℕ → List Extent
   rest b l want = spread n reserve (fillsFrom (blocks - b) b blk) b l want
@@ -48,6 +56,11 @@ module _ (n reserve blocks : ℕ) (blk : List ℕ) where
   pub rest-end : (b l want : ℕ) → blocks ≤ b → rest b l want ≡ []
   unfolding rest fillsFrom spread
   rest-end b l want h = let z : blocks - b ≡ 0 = omega arith in rw z
+
+  pub rest-done : (b l want : ℕ) → want ≡ 0 → rest b l want ≡ []
+  unfolding rest
+  rest-done b l want e =
+      ap (λ (x : ℕ). spread n reserve (fillsFrom (blocks - b) b blk) b l x) e ∙ spread-nothing n reserve (fillsFrom (blocks - b) b blk) b l
 
   module _ (b l want : ℕ) (h : b < blocks) where
     fills-next : fillsFrom (blocks - b) b blk ≡ fillWord blk b ∷ fillsFrom (blocks - (b + 1)) (b + 1) blk
@@ -89,6 +102,9 @@ module _ (n reserve blocks : ℕ) (blk : List ℕ) where
 
   pub many-end : (b want : ℕ) → blocks ≤ b → howMany b want ≡ 0
   many-end b want h = ap length (rest-end b 0 want h)
+
+  pub many-done : (b want : ℕ) → want ≡ 0 → howMany b want ≡ 0
+  many-done b want e = ap length (rest-done b 0 want e)
 
   module _ (b want m : ℕ) (h : b < blocks) (t : m ≡ takes b want) where
     pub many-skip : m ≤ 0 → howMany b want ≡ howMany (b + 1) (want - m)

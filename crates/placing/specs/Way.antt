@@ -21,8 +21,8 @@ use Rattle.laws.specs.Cells.{block-le, length-tabulate, getD-tabulate}
 use Rattle.laws.specs.Spread.{startBlock, withPiece, spread, filled, labelled, listed-none, listed-some, taken-le, taken-room}
 use Rattle.laws.specs.Order.{spread-pieces, puts-filled, puts-labelled, puts-rise}
 use Rattle.placing.specs.Bare.{fillsOf, bare}
-use Rattle.placing.specs.Blocks.{raised, raises, raised-length, raised-rise, raised-after, raises-fills, raises-rise, raises-skipped}
-use Rattle.placing.specs.Rest.{rest, takes, page-small, fills-all, rest-start, rest-next, rest-end}
+use Rattle.placing.specs.Blocks.{raised, raises, raised-length, raised-rise, raised-after, raises-fills, raises-rise, raises-skipped, raises-nothing}
+use Rattle.placing.specs.Rest.{rest, takes, page-small, fills-all, rest-start, rest-next, rest-end, rest-done}
 use Rattle.placing.specs.Starts.{start-le, before-start, rest-from}
 use Rattle.placing.specs.Place.{pieceIn, RoomFor, PlacedIn, Placeable, Placed}
 
@@ -265,13 +265,25 @@ module _ (n reserve blocks from l want : ℕ) (blk₀ spare₀ out₀ : List ℕ
           counting = omega (arith, ap length now, w .many, length-listed e es, ap length step-rest, p .counting);
         }
 
-  pub placing-end : blocks ≤ b → Placed (bare blocks n reserve blk₀ spare₀) l want blk₀ out₀ blk spare out k
-  unfolding raises labelled flat
-  placing-end h =
-      let z : blocks - b ≡ 0 = omega arith in
-      let over = rest-end n reserve blocks blk b (l + done) (want - done) h in
+  -- nothing is left to do: no block, or no page
+  placing-over : raises n reserve (blocks - b) b (want - done) blk ≡ blk → rest n reserve blocks blk b (l + done) (want - done) ≡ []
+      → Placed (bare blocks n reserve blk₀ spare₀) l want blk₀ out₀ blk spare out k
+  unfolding labelled flat
+  placing-over same over =
       ready-placed blocks n reserve from l want blk₀ spare₀ out₀ q blk spare out k
-      (sym (ap (λ (x : ℕ). raises n reserve x b (want - done) blk) z) ∙ p .records)
+      (sym same ∙ p .records)
       (sym (ap (λ (xs : List Extent). labelled xs spare) over) ∙ p .labels)
       (sym (ap (λ (xs : List Extent). sets out (3 * k) (flat xs)) over) ∙ p .listing)
       (omega (arith, ap length over, p .counting))
+
+  pub placing-end : blocks ≤ b → Placed (bare blocks n reserve blk₀ spare₀) l want blk₀ out₀ blk spare out k
+  unfolding raises
+  placing-end h =
+      let z : blocks - b ≡ 0 = omega arith in
+      placing-over (ap (λ (x : ℕ). raises n reserve x b (want - done) blk) z) (rest-end n reserve blocks blk b (l + done) (want - done) h)
+
+  pub placing-done : done ≡ want → Placed (bare blocks n reserve blk₀ spare₀) l want blk₀ out₀ blk spare out k
+  placing-done e =
+      let z : want - done ≡ 0 = omega arith in
+      placing-over (ap (λ (x : ℕ). raises n reserve (blocks - b) b x blk) z ∙ raises-nothing n reserve (blocks - b) b blk)
+      (rest-done n reserve blocks blk b (l + done) (want - done) z)

@@ -63,6 +63,9 @@ pub fn pieces_of(blk: &[u32], blocks: u32, n: u32, reserve: u32, from: usize, wa
     let mut left = want;
     let mut b = from;
     while b < blocks as usize {
+        if left == 0 {
+            return count;
+        }
         let m = room_in(blk, b, n, reserve, left);
         if 0 < m {
             count += 1;
@@ -134,6 +137,9 @@ pub fn place(
     let mut k: u32 = 0;
     let mut b = from;
     while b < blocks as usize {
+        if done == want {
+            return k;
+        }
         let m = room_in(blk, b, n, reserve, want - done);
         k = place_in(blk, spare, out, b, n, l + done, m, k);
         done += m;

@@ -3,7 +3,7 @@ use native.Mathlib.Omega.{arith}
 use borrow.Author.Needs.{needs}
 use Rattle.rules.specs.Blocks.{fillWord}
 use Rattle.laws.specs.Spread.{taken-le}
-use Rattle.placing.specs.Way.{Placing, placing-start, placing-fits, placing-step, placing-end}
+use Rattle.placing.specs.Way.{Placing, placing-start, placing-fits, placing-step, placing-end, placing-done}
 use Rattle.placing.proofs.place.Statement.{statement}
 use Rattle.placing.proofs.place.Tie as tie
 
@@ -18,7 +18,7 @@ loop-holds c = let q = c .before .before .before .pre in placing-start _ _ _ _ _
 
 -- where block b's part of the write is known
 abbrev loop : tie.After-room-in Inv-loop μ-loop → tie.At-loop Inv-loop μ-loop
-loop w = w .before .before .before
+loop w = w .before .before .before .before
 
 abbrev start : tie.After-room-in Inv-loop μ-loop → tie.Start Inv-loop μ-loop
 start w = loop w .before .before .before .before
@@ -52,14 +52,25 @@ loop-again c =
 
 returns : tie.Need-returns Inv-loop μ-loop
 returns c =
-    let s = c .before .before .before .before .before in
+    let w = c .before .before in
+    let s = w .before .before .before .before in
     let v = s .args in
-    let i = c .before .loop in
+    let i = w .loop in
+    placing-done (v .n) (v .reserve) (v .blocks) (v .from) (v .l) (v .want) (v .blk .now) (v .spare .now) (v .out .now) (s .pre)
+    (i .blk) (i .spare) (i .out) (i .b) (i .done) (i .k) (i .inv) (omega arith)
+
+returns-2 : tie.Need-returns-2 Inv-loop μ-loop
+returns-2 c =
+    let w = c .before in
+    let s = w .before .before .before .before in
+    let v = s .args in
+    let i = w .loop in
     placing-end (v .n) (v .reserve) (v .blocks) (v .from) (v .l) (v .want) (v .blk .now) (v .spare .now) (v .out .now) (s .pre)
     (i .blk) (i .spare) (i .out) (i .b) (i .done) (i .k) (i .inv) (omega arith)
 
 pub place-spec : {M : Type 1} → statement M
 place-spec =
     tie.close
-    (tie.spec Inv-loop μ-loop loop-holds (λ c. search needs) (λ c κs. search needs) (λ c. search needs) place-in-requires add-done
-    (λ c. search needs) (λ c. search needs) loop-again (λ c. search needs) (λ c. search needs) (λ c. search needs) returns)
+    (tie.spec Inv-loop μ-loop loop-holds (λ c. search needs) (λ c. search needs) (λ c. search needs) returns (λ c. search needs)
+    (λ c κs. search needs) (λ c. search needs) place-in-requires add-done (λ c. search needs) (λ c. search needs) loop-again
+    (λ c. search needs) (λ c. search needs) (λ c. search needs) returns-2)
