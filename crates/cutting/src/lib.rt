@@ -82,7 +82,8 @@ fn split(ext: &mut [u32], used: usize, i: usize, l: u32, e: u32)
     let q = ext[at];
     let p = ext[at + 1];
     let c = ext[at + 2];
-    map::insert(ext, used, i + 1, e, p + (e - q), c - (e - q));
+    let right = [e, p + (e - q), c - (e - q)];
+    map::insert(ext, used, i + 1, &right, 1);
     let left = Extent {
         logical: q,
         physical: p,

@@ -1,7 +1,7 @@
 -- Extents as words, three a slot: slots read from words, one put in the place of another, and words laid out from extents.
 use Prim.Native.Nat.{ℕ, zero, suc, _+_, _-_, _*_, _≤_, _<_}
-use mathlib.Core.Path.{_≡_, refl, ap, ap₂, _∙_}
-use mathlib.Core.List.{List, [], _∷_, _++_}
+use mathlib.Core.Path.{_≡_, refl, sym, ap, ap₂, _∙_}
+use mathlib.Core.List.{List, [], _∷_, _++_, append-nil}
 use native.Mathlib.Omega.{arith}
 use native.Mathlib.Nat.{not-suc-le-zero, le-of-suc-le-suc}
 use lib.ListN.{length, getD, set, take, drop, length-set}
@@ -138,3 +138,15 @@ flat-slots (a ∷ []) (suc u) h = absurd (omega arith)
 flat-slots (a ∷ b ∷ []) (suc u) h = absurd (omega arith)
 flat-slots (a ∷ b ∷ c ∷ ws) (suc u) h =
     rw (triple, slots-behind a b c ws 0 (0 + 1) u (omega arith), flat-slots ws u (omega arith))
+
+-- the slots of a part, from slot s on
+pub slots-part : (ws : List ℕ) (s u m : ℕ) → m ≡ 3 * u → 3 * (s + u) ≤ length ws → slotsFrom (take m (drop (3 * s) ws)) 0 u ≡ slotsFrom ws s u
+slots-part ws zero u m e h =
+    let es = slotsFrom ws 0 u in
+    let words : take m ws ≡ flat es ++ [] = ap (λ (n : ℕ). take n ws) e ∙ sym (append-nil (flat es) ∙ flat-slots ws u (omega arith)) in
+    ap₂ (λ (w : List ℕ) (n : ℕ). slotsFrom w 0 n) words (sym (slots-length ws 0 u)) ∙ slots-flat es []
+slots-part [] (suc s) u m e h = absurd (omega arith)
+slots-part (a ∷ []) (suc s) u m e h = absurd (omega arith)
+slots-part (a ∷ b ∷ []) (suc s) u m e h = absurd (omega arith)
+slots-part (a ∷ b ∷ c ∷ ws) (suc s) u m e h =
+    rw triple (slots-part ws s u m e (omega arith) ∙ sym (slots-behind a b c ws s (suc s) u refl))

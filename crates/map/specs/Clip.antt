@@ -8,7 +8,7 @@ use native.Mathlib.Omega.{arith}
 use native.Mathlib.Decide.{decLt}
 use borrow.Author.Tests.{lt-ltb, le-ltb}
 use lib.Dec.{ltb}
-use lib.ListN.{length, getD, take, drop, set, length-set, length-append, length-drop}
+use lib.ListN.{length, getD, take, drop, set, length-set}
 use lib.Seq.{take-set-le, drop-set-lt, drop-set-add, drop-cons, getD-set-same, getD-set-other, set-getD, set-out, set-append-left, take-set-lt, length-take-le}
 use Rattle.rules.specs.Counting.{one}
 use Rattle.rules.specs.Extents.{none, extent, end, slot, putSlot, slotsFrom}
@@ -20,7 +20,7 @@ use Rattle.laws.specs.Cut.{below, from, cut, below-none, below-part, below-all,
 use Rattle.laws.specs.Slots.{blank, slots-at, slots-length}
 use Rattle.laws.specs.Counts.{startsBefore, endsAfter, tally, tally-le, starts-none, ends-all}
 use Rattle.map.specs.Sound.{SoundMap}
-use Rattle.map.specs.Padded.{padded, Holds, became-length, became-slots, became-holds, holds-put}
+use Rattle.map.specs.Padded.{padded, spliced, spliced-length, Holds, became-length, became-slots, became-holds, holds-put}
 
 -- an extent's part below l
 abbrev pub upTo : ℕ → Extent → Extent
@@ -229,9 +229,9 @@ module _ (ws : List ℕ) (u : ℕ) where
         (extent-path _ (onFrom e (slot ws z)) (omega arith) (omega arith) (omega arith) ∙ ap (onFrom e) (sym (at-slot z s)))
 
     -- the right part put in behind slot i
-    module _ (l e i : ℕ) (f : 3 * u + 3 ≤ length ws) (t : i < u) (b : slot ws i .logical ≤ l) (d : l < e) (k : e < end (slot ws i)) (mid : List ℕ)
-        (g : mid ≡ padded (length ws) (take (i + 1) (slotsFrom ws 0 u)
-        ++ extent e (slot ws i .physical + (e - slot ws i .logical)) (slot ws i .count - (e - slot ws i .logical)) ∷ drop (i + 1) (slotsFrom ws 0 u))) where
+    module _ (l e i : ℕ) (f : 3 * (u + 1) ≤ length ws) (t : i < u) (b : slot ws i .logical ≤ l) (d : l < e) (k : e < end (slot ws i)) (mid : List ℕ)
+        (g : mid ≡ padded (length ws) (spliced (i + 1)
+        (extent e (slot ws i .physical + (e - slot ws i .logical)) (slot ws i .count - (e - slot ws i .logical)) ∷ []) (slotsFrom ws 0 u))) where
       abbrev es : List Extent
       es = slotsFrom ws 0 u
 
@@ -239,27 +239,27 @@ module _ (ws : List ℕ) (u : ℕ) where
       right = extent e (slot ws i .physical + (e - slot ws i .logical)) (slot ws i .count - (e - slot ws i .logical))
 
       abbrev both : List Extent
-      both = take (i + 1) es ++ right ∷ drop (i + 1) es
+      both = spliced (i + 1) (right ∷ []) es
 
       size : length es ≡ u
       size = slots-length ws 0 u
 
       one-more : length both ≡ u + 1
-      one-more = omega (arith, length-append (take (i + 1) es) (right ∷ drop (i + 1) es), length-take-le (i + 1) es (omega (arith, size)), length-drop (i + 1) es, size)
+      one-more = spliced-length (i + 1) (right ∷ []) es (omega (arith, size)) ∙ omega (arith, size)
 
       split-holds : Holds mid (u + 1)
-      split-holds = became-holds (length ws) both mid (u + 1) g one-more (omega arith)
+      split-holds = became-holds (length ws) both mid (u + 1) g one-more f
 
       -- and slot i clipped
       pub split-set : (ws′ : List ℕ) → ws′ ≡ putSlot mid i (extent (slot ws i .logical) (slot ws i .physical) (l - slot ws i .logical))
           → ws′ ≡ padded (length ws) (splitAt l e i es)
-      unfolding splitAt
+      unfolding splitAt spliced
       split-set ws′ q =
           let x = at-slot i t in
           let left = extent (slot ws i .logical) (slot ws i .physical) (l - slot ws i .logical) in
           q ∙ holds-put mid (u + 1) i left split-holds (omega arith)
-          ∙ ap₂ (λ (j : ℕ) (xs : List Extent). padded j (set xs i left)) (became-length (length ws) both mid (u + 1) g one-more (omega arith))
-          (became-slots (length ws) both mid (u + 1) g one-more (omega arith))
+          ∙ ap₂ (λ (j : ℕ) (xs : List Extent). padded j (set xs i left)) (became-length (length ws) both mid (u + 1) g one-more f)
+          (became-slots (length ws) both mid (u + 1) g one-more f)
           ∙ ap (padded (length ws)) (set-append-left (take (i + 1) es) (right ∷ drop (i + 1) es) i left (omega (arith, length-take-le (i + 1) es (omega (arith, size))))
           ∙ ap₂ (λ (y : Extent) (v : Extent). set (take (i + 1) es) i y ++ v ∷ drop (i + 1) es)
           (extent-path left (upTo l (slot ws i)) refl refl (omega arith) ∙ ap (upTo l) (sym x))

@@ -3,13 +3,14 @@ use Prim.Native.Nat.{ℕ, zero, suc, _+_, _-_, _*_, _≤_, _<_}
 use mathlib.Core.Path.{_≡_, refl, sym, ap, ap₂, _∙_}
 use mathlib.Core.List.{List, [], _∷_, _++_, append-assoc, append-nil}
 use native.Mathlib.Omega.{arith}
-use borrow.Rule.Slice.PartMut.{midOf, putMid}
+use borrow.Rule.Slice.PartMut.{midOf, putMid, mid-len}
 use lib.ListN.{length, getD, take, drop, set, replicate, length-append, length-drop, length-replicate, length-set, getD-replicate, take-append-drop, replicate-append-replicate}
-use lib.Seq.{sets, ext-getD, getD-drop, take-at, drop-at, drop-drop, take-append-add, drop-append-add, length-take-le}
-use Rattle.rules.specs.Extents.{extent, putSlot, slotsFrom, flat}
+use lib.Seq.{sets, ext-getD, getD-drop, take-all, take-at, take-take, drop-at, drop-drop, drop-append-add, length-take-le}
+use Rattle.rules.specs.Extents.{putSlot, slotsFrom, flat}
 use Rattle.rules.specs.Device.{Device, extents, wordsOf}
 use Rattle.rules.specs.declared.Extent.{Extent}
 use Rattle.laws.specs.Slots.{flat-length, flat-append, flat-take, flat-drop, slots-flat, flat-slots, slots-length, put-slot-sets}
+use Rattle.words.specs.Parts.{up-put}
 
 -- m words
 unfoldable pub padded : ℕ → List Extent → List ℕ
@@ -29,6 +30,19 @@ unfolding padded wordsOf
 padded-words d =
     let e : 3 * d .slots - 3 * length (extents d) ≡ 3 * (d .slots - length (extents d)) = omega arith in
     ap (λ (k : ℕ). flat (extents d) ++ replicate k 0) e
+
+-- pieces put in at slot i
+unfoldable pub spliced : ℕ → List Extent → List Extent → List Extent
+spliced i new es = take i es ++ (new ++ drop i es)
+
+spliced-none : (i : ℕ) (es : List Extent) → es ≡ spliced i [] es
+unfolding spliced
+spliced-none i es = sym (take-append-drop i es)
+
+pub spliced-length : (i : ℕ) (new es : List Extent) → i ≤ length es → length (spliced i new es) ≡ length es + length new
+unfolding spliced
+spliced-length i new es h =
+    omega (arith, length-append (take i es) (new ++ drop i es), length-append new (drop i es), length-take-le i es h, length-drop i es)
 
 -- ---- words that hold the extents of their first u slots and nothing else
 
@@ -86,6 +100,10 @@ holds-put ws u i e h s =
 
 -- ---- slots moved
 
+drop-same : (k r n x : ℕ) → n ≡ k + r → drop k (replicate n x) ≡ replicate r x
+drop-same k r n x e =
+    rw e (ap (drop k) (sym (replicate-append-replicate k r x)) ∙ drop-at (replicate k x) (replicate r x) k (length-replicate k x))
+
 module _ (ws : List ℕ) (u : ℕ) (h : Holds ws u) where
   abbrev es : List Extent
   es = slotsFrom ws 0 u
@@ -115,40 +133,58 @@ module _ (ws : List ℕ) (u : ℕ) (h : Holds ws u) where
       sym (append-assoc (flat xs) (flat ys) (replicate k 0))
       ∙ ap₂ (λ (w : List ℕ) (j : ℕ). w ++ replicate j 0) (sym (flat-append xs ys)) e
 
-  -- one slot put in at i
-  module _ (i l p c : ℕ) (s : i ≤ u) (f : 3 * u + 3 ≤ m) where
+  -- no slots put in
+  pub holds-none : (i k : ℕ) (new : List ℕ) → k ≡ 0 → ws ≡ padded m (spliced i (slotsFrom new 0 k) es)
+  unfolding slotsFrom
+  holds-none i k new e = h .is ∙ ap (padded m) (spliced-none i es ∙ ap (λ (j : ℕ). spliced i (slotsFrom new 0 j) es) (sym e))
+
+  -- k slots put in at i
+  module _ (i k : ℕ) (new : List ℕ) (s : i ≤ u) (n : length new ≡ 3 * k) (f : 3 * (u + k) ≤ m) where
+    abbrev pieces : List Extent
+    pieces = slotsFrom new 0 k
+
     abbrev moved : List ℕ
     moved = flat (drop i es)
 
+    abbrev room : ℕ
+    room = 3 * (u + k) - 3 * i
+
+    abbrev lent : List ℕ
+    lent = midOf (3 * i) room ws
+
+    lent-length : length lent ≡ room
+    lent-length = mid-len (3 * i) (3 * (u + k)) ws f
+
+    moved-up : take (length lent - 3 * k) lent ≡ moved
+    moved-up =
+        let to : length lent - 3 * k ≡ 3 * (u - i) = omega (arith, lent-length) in
+        ap (λ (j : ℕ). take j lent) to ∙ take-take (3 * (u - i)) room (drop (3 * i) ws) (omega arith)
+        ∙ ap (take (3 * (u - i))) (back i s) ∙ take-at moved (replicate (m - 3 * u) 0) (3 * (u - i)) (back-length i)
+
     abbrev rest : List ℕ
-    rest = replicate (m - 3 * u - 3) 0
+    rest = replicate (m - 3 * (u + k)) 0
 
-    tail : drop (3 * i) ws ≡ moved ++ 0 ∷ 0 ∷ 0 ∷ rest
-    tail = let r : m - 3 * u ≡ suc (suc (suc (m - 3 * u - 3))) = omega arith in back i s ∙ ap (λ (j : ℕ). moved ++ replicate j 0) r
+    behind : drop room (drop (3 * i) ws) ≡ rest
+    behind =
+        let to : room ≡ length moved + 3 * k = omega (arith, back-length i) in
+        ap₂ (λ (j : ℕ) (t : List ℕ). drop j t) to (back i s) ∙ drop-append-add moved (replicate (m - 3 * u) 0) (3 * k)
+        ∙ drop-same (3 * k) (m - 3 * (u + k)) (m - 3 * u) 0 (omega arith)
 
-    up-to : 3 * u + 3 - 3 * i ≡ length moved + 3
-    up-to = omega (arith, back-length i)
+    words : new ≡ flat pieces
+    words = sym (flat-slots new k (omega arith) ∙ take-all (3 * k) new (omega arith))
 
-    lent : midOf (3 * i) (3 * u + 3 - 3 * i) ws ≡ moved ++ 0 ∷ 0 ∷ 0 ∷ []
-    lent = ap₂ (λ (j : ℕ) (t : List ℕ). take j t) up-to tail ∙ take-append-add moved (0 ∷ 0 ∷ 0 ∷ rest) 3
+    more : m - 3 * (u + k) ≡ m - 3 * length (spliced i pieces es)
+    more = omega (arith, spliced-length i pieces es (omega (arith, size)), slots-length new 0 k, size)
 
-    behind : drop (3 * u + 3 - 3 * i) (drop (3 * i) ws) ≡ rest
-    behind = ap₂ (λ (j : ℕ) (t : List ℕ). drop j t) up-to tail ∙ drop-append-add moved (0 ∷ 0 ∷ 0 ∷ rest) 3
-
-    one-more : m - 3 * u - 3 ≡ m - 3 * length (take i es ++ extent l p c ∷ drop i es)
-    one-more = omega (arith, length-append (take i es) (extent l p c ∷ drop i es), length-take-le i es (omega (arith, size)), length-drop i es, size)
-
-    -- as `shift_up` gives the part from there on back
-    pub holds-insert : (ys : List ℕ) → ys ≡ l ∷ p ∷ c ∷ take (length (midOf (3 * i) (3 * u + 3 - 3 * i) ws) - 3) (midOf (3 * i) (3 * u + 3 - 3 * i) ws)
-        → putMid (3 * i) (3 * u + 3 - 3 * i) ws ys ≡ padded m (take i es ++ extent l p c ∷ drop i es)
-    unfolding flat
-    holds-insert ys e =
-        let n : length (midOf (3 * i) (3 * u + 3 - 3 * i) ws) - 3 ≡ length moved = omega (arith, ap length lent, length-append moved (0 ∷ 0 ∷ 0 ∷ [])) in
-        let new : ys ≡ l ∷ p ∷ c ∷ moved =
-        e ∙ ap₂ (λ (j : ℕ) (t : List ℕ). l ∷ p ∷ c ∷ take j t) n lent
-        ∙ ap (λ (t : List ℕ). l ∷ p ∷ c ∷ t) (take-at moved (0 ∷ 0 ∷ 0 ∷ []) (length moved) refl) in
-        ap₂ (λ (a b : List ℕ). a ++ b) (front i s) (ap₂ (λ (a b : List ℕ). a ++ b) new behind)
-        ∙ laid-out (take i es) (extent l p c ∷ drop i es) (m - 3 * u - 3) one-more
+    -- as `shift_up` gives the part from there on back, and `put_words` its first words
+    pub holds-insert : (ys zs : List ℕ) → ys ≡ take (3 * k) lent ++ take (length lent - 3 * k) lent → zs ≡ new
+        → putMid (3 * i) (3 * (i + k) - 3 * i) (putMid (3 * i) room ws ys) zs ≡ padded m (spliced i pieces es)
+    unfolding spliced
+    holds-insert ys zs e g =
+        up-put (3 * i) room (3 * (i + k) - 3 * i) (3 * k) ws ys zs (omega arith) (omega (arith, lent-length)) (omega arith) e
+        ∙ ap₂ (λ (a b : List ℕ). a ++ b) (front i s) (ap₂ (λ (a b : List ℕ). a ++ b) (g ∙ words) (ap₂ (λ (a b : List ℕ). a ++ b) moved-up behind)
+        ∙ sym (append-assoc (flat pieces) moved rest) ∙ ap (λ (t : List ℕ). t ++ rest) (sym (flat-append pieces (drop i es))))
+        ∙ laid-out (take i es) (pieces ++ drop i es) (m - 3 * (u + k)) more
 
   -- no slots taken out
   pub holds-same : (a z : ℕ) → a ≡ z → ws ≡ padded m (take a es ++ drop z es)

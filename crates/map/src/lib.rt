@@ -1,15 +1,14 @@
-// The extents of a sound state: where a page and a range meet them, found by halving the slots, and one extent let in. `Holds` says that words are
+// The extents of a sound state: where a page and a range meet them, found by halving the slots, and extents let in. `Holds` says that words are
 // extents in their first slots and zeros behind; whatever changes the map, here, in `cutting` and in `putting`, leaves it so.
 ghost use mathlib.Core.Path.{_≡_};
 ghost use Prim.Native.Nat.{_+_, _*_, _<_, _≤_, _^_};
-ghost use mathlib.Core.List.{_∷_, _++_};
-ghost use lib.ListN.{length, take, drop};
+ghost use lib.ListN.{length};
 ghost use Rattle.rules.specs.Extents.{extent, end, slot, slotsFrom};
 ghost use Rattle.laws.specs.Counts.{startsBefore};
 ghost use Rattle.map.specs.Sound.{SoundMap};
 ghost use Rattle.map.specs.Halved.{endsBy};
 ghost use Rattle.map.specs.Around.{Beside, joinsBefore};
-ghost use Rattle.map.specs.Padded.{padded, Holds};
+ghost use Rattle.map.specs.Padded.{padded, spliced, Holds};
 
 // Where slot i ends, as a whole number.
 pub fn end_of(ext: &[u32], i: usize) -> u64
@@ -99,12 +98,17 @@ pub fn joins_left(ext: &[u32], before: usize, pages: u32, l: u32, p: u32) -> boo
     q / pages == p / pages
 }
 
-// (l, p, c) comes in at slot i, and the slots from there on move up.
-pub fn insert(ext: &mut [u32], used: usize, i: usize, l: u32, p: u32, c: u32)
-    requires { ⌜ Holds (now ext) used × (i ≤ used) × (3 * used + 3 ≤ length (now ext)) ⌝ }
-    ensures { λ _. ⌜ now (ext .exit) ≡ padded (length (now (ext .entry))) (take i (slotsFrom (now (ext .entry)) 0 used) ++ extent l p c ∷ drop i (slotsFrom (now (ext .entry)) 0 used)) ⌝ }
+// The k extents of `new` come in at slot i, and the slots from there on move up, once for all of them. Where none comes in, none moves.
+pub fn insert(ext: &mut [u32], used: usize, i: usize, new: &[u32], k: usize)
+    requires { ⌜ Holds (now ext) used × (i ≤ used) × (length (now new) ≡ 3 * k) × (3 * (used + k) ≤ length (now ext)) ⌝ }
+    ensures { λ _. ⌜ now (ext .exit) ≡ padded (length (now (ext .entry))) (spliced i (slotsFrom (now (new .entry)) 0 k) (slotsFrom (now (ext .entry)) 0 used)) ⌝ }
 {
+    if k < 1 {
+        return;
+    }
     let at = 3 * i;
-    let top = 3 * used + 3;
-    words::shift_up(&mut ext[at..top], l, p, c);
+    let to = 3 * (i + k);
+    let top = 3 * (used + k);
+    words::shift_up(&mut ext[at..top], 3 * k);
+    words::put_words(&mut ext[at..to], new);
 }

@@ -3,10 +3,10 @@
 use Prim.Native.Nat.{ℕ, zero, suc, _+_, _-_, _*_, _%_, _≤_, _<_, _^_}
 use mathlib.Core.Path.{_≡_, refl, sym, ap, ap₂, _∙_, subst₂}
 use mathlib.Core.Bool.{Bool, true, false}
-use mathlib.Core.List.{List, [], _∷_, _++_, append-assoc}
+use mathlib.Core.List.{List, [], _∷_, _++_}
 use native.Mathlib.Omega.{arith}
-use lib.ListN.{length, getD, take, drop, set, length-append, length-set, length-drop, take-append-drop, List·getD-append}
-use lib.Seq.{take-at, drop-at, set-append-left, length-take-le}
+use lib.ListN.{length, getD, take, drop, set, length-set, List·getD-append}
+use lib.Seq.{take-at, drop-at, set-append-left}
 use Rattle.rules.specs.Counting.{one}
 use Rattle.rules.specs.Extents.{none, extent, lookup, joinable, slot, putSlot, slotsFrom}
 use Rattle.rules.specs.declared.Extent.{Extent}
@@ -16,17 +16,13 @@ use Rattle.laws.specs.Runs.{joinable-first, join-joined, join-apart}
 use Rattle.laws.specs.Cut.{below, from, cut, below-rows}
 use Rattle.laws.specs.Write.{glue, place}
 use Rattle.laws.specs.Counts.{startsBefore, leftJoin, tally, tip, not-next, join-next, no-right, below-joins, below-length}
-use Rattle.laws.specs.Slots.{blank, slots-length, slots-more}
-use Rattle.map.specs.Padded.{padded, Holds, Becomes, became-length, became-slots, became-holds, holds-put}
+use Rattle.laws.specs.Slots.{blank, slots-length, slots-part}
+use Rattle.map.specs.Padded.{padded, spliced, spliced-length, Holds, Becomes, became-length, became-slots, became-holds, holds-put}
 use Rattle.map.specs.Clip.{at-slot}
 
 -- an extent with c pages more
 abbrev pub longer : ℕ → Extent → Extent
 longer c x = extent (x .logical) (x .physical) (x .count + c)
-
--- pieces put in at slot i
-unfoldable pub spliced : ℕ → List Extent → List Extent → List Extent
-spliced i new es = take i es ++ (new ++ drop i es)
 
 -- the extent before slot i with c pages more
 unfoldable pub lengthened : ℕ → ℕ → List Extent → List Extent
@@ -120,60 +116,17 @@ pub record Puttable (ws : List ℕ) (u before : ℕ) (joined : Bool) (new : List
   pub room : 3 * (u + k) ≤ length ws + 3 * one joined
   pub joins : joined ≡ true → (1 ≤ before) × (slot ws (before - 1) .count + slot new 0 .count < 2 ^ 32)
 
--- one piece more, at its slot
-splice-one : (i d : ℕ) (x : Extent) (new xs ys : List Extent) → i ≤ length ys → length new ≡ d → xs ≡ spliced i new ys
-    → take (i + d) xs ++ x ∷ drop (i + d) xs ≡ spliced i (new ++ x ∷ []) ys
-unfolding spliced
-splice-one i d x new xs ys h s e =
-    let front = take i ys ++ new in
-    let size : length front ≡ i + d = omega (arith, length-append (take i ys) new, length-take-le i ys h) in
-    let at : xs ≡ front ++ drop i ys = e ∙ sym (append-assoc (take i ys) new (drop i ys)) in
-    ap (λ (zs : List Extent). take (i + d) zs ++ x ∷ drop (i + d) zs) at
-    ∙ ap₂ (λ (a b : List Extent). a ++ x ∷ b) (take-at front (drop i ys) (i + d) size) (drop-at front (drop i ys) (i + d) size)
-    ∙ append-assoc (take i ys) new (x ∷ drop i ys)
-    ∙ ap (λ (zs : List Extent). take i ys ++ zs) (sym (append-assoc new (x ∷ []) (drop i ys)))
-
-pub spliced-none : (i : ℕ) (es : List Extent) → es ≡ spliced i [] es
-unfolding spliced
-spliced-none i es = sym (take-append-drop i es)
-
-pub spliced-length : (i : ℕ) (new es : List Extent) → i ≤ length es → length (spliced i new es) ≡ length es + length new
-unfolding spliced
-spliced-length i new es h =
-    omega (arith, length-append (take i es) (new ++ drop i es), length-append new (drop i es), length-take-le i es h, length-drop i es)
-
--- a loop that has put d of the pieces from s on in
-module _ (ws : List ℕ) (u i : ℕ) (new : List ℕ) (s : ℕ) (h : Holds ws u) (b : i ≤ u) where
-  abbrev es : List Extent
-  es = slotsFrom ws 0 u
-
-  size : length es ≡ u
-  size = slots-length ws 0 u
-
-  pub splice-start : ws ≡ padded (length ws) (spliced i (slotsFrom new s 0) es)
-  unfolding slotsFrom
-  splice-start = h .is ∙ ap (padded (length ws)) (spliced-none i es)
-
-  module _ (d : ℕ) (f : 3 * (u + d) ≤ length ws) (mid : List ℕ) (g : mid ≡ padded (length ws) (spliced i (slotsFrom new s d) es)) where
-    count : length (spliced i (slotsFrom new s d) es) ≡ u + d
-    count = spliced-length i (slotsFrom new s d) es (omega (arith, size)) ∙ omega (arith, size, slots-length new s d)
-
-    pub splice-holds : Holds mid (u + d)
-    splice-holds = became-holds (length ws) (spliced i (slotsFrom new s d) es) mid (u + d) g count f
-
-    pub splice-more : (ws′ : List ℕ)
-        → ws′ ≡ padded (length mid) (take (i + d) (slotsFrom mid 0 (u + d)) ++ slot new (s + d) ∷ drop (i + d) (slotsFrom mid 0 (u + d)))
-        → ws′ ≡ padded (length ws) (spliced i (slotsFrom new s (d + 1)) es)
-    splice-more ws′ e =
-        e ∙ ap₂ padded (became-length (length ws) (spliced i (slotsFrom new s d) es) mid (u + d) g count f)
-        (splice-one i d (slot new (s + d)) (slotsFrom new s d) (slotsFrom mid 0 (u + d)) es (omega (arith, size)) (slots-length new s d)
-        (became-slots (length ws) (spliced i (slotsFrom new s d) es) mid (u + d) g count f)
-        ∙ ap (λ (xs : List Extent). spliced i xs es) (sym (slots-more new s d (s + d) refl)))
-
-    pub splice-end : (k r : ℕ) → d ≡ k → r ≡ u + k → Becomes (length ws) (spliced i (slotsFrom new s k) es) mid r
-    splice-end k r p q = record {
-      is = g ∙ ap (λ (j : ℕ). padded (length ws) (spliced i (slotsFrom new s j) es)) p;
-      used = omega (arith, count, ap (λ (j : ℕ). length (spliced i (slotsFrom new s j) es)) p);
+-- the pieces from s up to k let in at slot i
+pub splice-done : (ws : List ℕ) (u i : ℕ) (new : List ℕ) (s k : ℕ) → i ≤ u → s ≤ k → 3 * k ≤ length new → (ws′ : List ℕ)
+    → ws′ ≡ padded (length ws) (spliced i (slotsFrom (take (3 * k - 3 * s) (drop (3 * s) new)) 0 (k - s)) (slotsFrom ws 0 u))
+    → Becomes (length ws) (spliced i (slotsFrom new s (k - s)) (slotsFrom ws 0 u)) ws′ (u + (k - s))
+splice-done ws u i new s k b t f ws′ e =
+    let es = slotsFrom ws 0 u in
+    let pieces = slotsFrom new s (k - s) in
+    let size = slots-length ws 0 u in
+    record {
+      is = e ∙ ap (λ (xs : List Extent). padded (length ws) (spliced i xs es)) (slots-part new s (k - s) (3 * k - 3 * s) (omega arith) (omega arith));
+      used = sym (spliced-length i pieces es (omega (arith, size)) ∙ ap₂ (λ (x y : ℕ). x + y) size (slots-length new s (k - s)));
     }
 
 -- the extent before slot i with c pages more

@@ -5,8 +5,8 @@ ghost use mathlib.Core.Path.{_≡_};
 ghost use Prim.Native.Nat.{_+_, _-_, _*_, _<_, _≤_, _^_};
 ghost use lib.ListN.{length};
 ghost use Rattle.rules.specs.Extents.{slot, slotsFrom};
-ghost use Rattle.map.specs.Padded.{padded, Holds, Becomes};
-ghost use Rattle.putting.specs.Pieces.{spliced, lengthened, putIn, Puttable};
+ghost use Rattle.map.specs.Padded.{padded, spliced, Holds, Becomes};
+ghost use Rattle.putting.specs.Pieces.{lengthened, putIn, Puttable};
 
 // The extent before slot i gets c pages more.
 fn lengthen(ext: &mut [u32], used: usize, i: usize, c: u32)
@@ -31,16 +31,11 @@ fn splice(ext: &mut [u32], used: usize, i: usize, new: &[u32], s: usize, k: usiz
     requires { ⌜ Holds (now ext) used × (i ≤ used) × (s ≤ k) × (3 * k ≤ length (now new)) × (3 * (used + (k - s)) ≤ length (now ext)) ⌝ }
     ensures { λ r. ⌜ Becomes (length (now (ext .entry))) (spliced i (slotsFrom (now (new .entry)) s (k - s)) (slotsFrom (now (ext .entry)) 0 used)) (now (ext .exit)) r ⌝ }
 {
-    let mut d: usize = 0;
-    while d < k - s {
-        let at = 3 * (s + d);
-        let l = new[at];
-        let p = new[at + 1];
-        let c = new[at + 2];
-        map::insert(ext, used + d, i + d, l, p, c);
-        d += 1;
-    }
-    used + d
+    let from = 3 * s;
+    let to = 3 * k;
+    let more = k - s;
+    map::insert(ext, used, i, &new[from..to], more);
+    used + more
 }
 
 // k new pieces come in at slot `before`, where the first is `joined` to the extent in front of it or not. The slots then in use are

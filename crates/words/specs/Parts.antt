@@ -1,10 +1,10 @@
 -- A part of a slice, as it is lent and as it comes back.
 use Prim.Native.Nat.{ℕ, _+_, _-_, _≤_, _<_}
-use mathlib.Core.List.{List, _++_, append-nil}
+use mathlib.Core.List.{List, _++_, append-nil, append-assoc}
 use mathlib.Core.Path.{_≡_, ap, ap₂, _∙_}
 use native.Mathlib.Omega.{arith}
 use lib.ListN.{length, getD, take, drop, replicate, length-take, length-drop, drop-of-length-le}
-use lib.Seq.{take-all, getD-take, getD-drop}
+use lib.Seq.{take-all, take-at, drop-at, getD-take, getD-drop, length-take-le}
 use borrow.Rule.Slice.PartMut.{midOf, putMid}
 use Rattle.words.specs.Store.{stored, downBy, down-end}
 
@@ -34,3 +34,17 @@ down-put by len i xs ts ys h el ei et e f =
     ap length (mid-tail (len - by) ts) ∙ length-drop (len - by) ts ∙ omega arith in
     put-tail (len - by) ts ys
     ∙ ap₂ (λ (a b : List ℕ). a ++ b) (ap (λ (k : ℕ). take (k - by) ts) el ∙ down-end by i xs ts h ei e) (f ∙ ap (λ (k : ℕ). replicate k 0) m)
+
+-- a part moved up as `shift_up` gives it back, and then other words put over its first `by`
+pub up-put : (a n b by : ℕ) (xs ys new : List ℕ) → a ≤ length xs → by ≤ length (midOf a n xs) → b ≡ by
+    → ys ≡ take by (midOf a n xs) ++ take (length (midOf a n xs) - by) (midOf a n xs)
+    → putMid a b (putMid a n xs ys) new ≡ take a xs ++ (new ++ (take (length (midOf a n xs) - by) (midOf a n xs) ++ drop n (drop a xs)))
+up-put a n b by xs ys new h s e f =
+    let mid : List ℕ = midOf a n xs in
+    let up : List ℕ = take (length mid - by) mid in
+    let rest : List ℕ = drop n (drop a xs) in
+    let size : length (take a xs) ≡ a = length-take-le a xs h in
+    let back : drop a (take a xs ++ (ys ++ rest)) ≡ take by mid ++ (up ++ rest) =
+    drop-at (take a xs) (ys ++ rest) a size ∙ ap (λ (t : List ℕ). t ++ rest) f ∙ append-assoc (take by mid) up rest in
+    ap₂ (λ (x y : List ℕ). x ++ (new ++ y)) (take-at (take a xs) (ys ++ rest) a size)
+    (ap₂ (λ (k : ℕ) (t : List ℕ). drop k t) e back ∙ drop-at (take by mid) (up ++ rest) by (length-take-le by mid s))

@@ -46,6 +46,13 @@ unfolding tabulate
 tabulate-const zero x = refl
 tabulate-const (suc n) x = ap (λ (r : List ℕ). x ∷ r) (tabulate-const n x)
 
+-- the words of another list, at their places
+pub put-end : (k : ℕ) (new xs ys : List ℕ) → k ≡ length xs → length xs ≡ length new → ys ≡ stored (λ i. getD new i 0) k xs → ys ≡ new
+put-end k new xs ys h s e =
+    let f : ℕ → ℕ = λ i. getD new i 0 in
+    let n = length-tabulate (length xs) f in
+    stored-end f k xs ys h e ∙ ext-getD 0 (tabulate (length xs) f) new (n ∙ s) (λ i p. getD-tabulate (length xs) f i 0 (omega arith))
+
 -- ---- words moved down
 
 pub stored-read : (f : ℕ → ℕ) (k : ℕ) (xs : List ℕ) (i : ℕ) → k ≤ i → getD (stored f k xs) i 0 ≡ getD xs i 0

@@ -8,7 +8,7 @@ use rules::Last;
 use rules::Refusal;
 ghost use mathlib.Core.Path.{_≡_};
 ghost use Prim.Native.Nat.{_+_, _-_, _*_, _<_, _≤_, _^_};
-ghost use mathlib.Core.List.{_∷_, _++_};
+ghost use mathlib.Core.List.{_++_};
 ghost use lib.ListN.{length, getD, take, drop, replicate};
 ghost use lib.Dec.{eqb, ltb};
 ghost use Rattle.rules.specs.Counting.{all, tabulate};
@@ -197,19 +197,28 @@ pub fn fill_rise(ws: &mut [u32], x: u32)
     }
 }
 
-// Every word three places up, the last three dropped, and the new three in front.
-pub fn shift_up(tail: &mut [u32], l: u32, p: u32, c: u32)
-    requires { ⌜ 3 ≤ length (now tail) ⌝ }
-    ensures { λ _. ⌜ now (tail .exit) ≡ l ∷ p ∷ c ∷ take (length (now (tail .entry)) - 3) (now (tail .entry)) ⌝ }
+// The words become those of `new`.
+pub fn put_words(ws: &mut [u32], new: &[u32])
+    requires { ⌜ length (now ws) ≡ length (now new) ⌝ }
+    ensures { λ _. ⌜ now (ws .exit) ≡ now (new .entry) ⌝ }
+{
+    let mut k: usize = 0;
+    while k < ws.len() {
+        ws[k] = new[k];
+        k += 1;
+    }
+}
+
+// Every word moved up by `by` places, the last `by` dropped, and the first `by` left as they were.
+pub fn shift_up(tail: &mut [u32], by: usize)
+    requires { ⌜ by ≤ length (now tail) ⌝ }
+    ensures { λ _. ⌜ now (tail .exit) ≡ take by (now (tail .entry)) ++ take (length (now (tail .entry)) - by) (now (tail .entry)) ⌝ }
 {
     let mut i = tail.len();
-    while 3 < i {
+    while by < i {
         i -= 1;
-        tail[i] = tail[i - 3];
+        tail[i] = tail[i - by];
     }
-    tail[0] = l;
-    tail[1] = p;
-    tail[2] = c;
 }
 
 // The first `by` words dropped, the others moved down in their place, and zeros behind them.
