@@ -1,6 +1,6 @@
 -- What cutting a range out of a sound state leaves: the words of the device whose lines in the range are holes. A trim is this and a number; a
 -- write begins with it.
-use Prim.Native.Nat.{ℕ, _+_, _*_, _/_, _≤_, _<_}
+use Prim.Native.Nat.{ℕ, _+_, _-_, _*_, _/_, _≤_, _<_}
 use mathlib.Core.Path.{_≡_, refl, sym, ap, _∙_, ap₂}
 use mathlib.Core.List.{List, []}
 use mathlib.Core.Logic.{by-cases}
@@ -10,7 +10,7 @@ use borrow.Author.Tests.{ne-eqb}
 use lib.Dec.{eqb}
 use lib.ListN.{length}
 use Rattle.rules.specs.Counting.{sum, count}
-use Rattle.rules.specs.Extents.{none, lookup, slot}
+use Rattle.rules.specs.Extents.{none, lookup, slot, slotsFrom}
 use Rattle.rules.specs.Blocks.{validWord}
 use Rattle.rules.specs.Lent.{Lent, lent, inUse, fillOf, validOf}
 use Rattle.rules.specs.Device.{Device, blocks, at, mapped, valid, extents, deviceOf, headOf, wordsOf}
@@ -28,8 +28,9 @@ use Rattle.laws.specs.Valid.{trim-valid}
 use Rattle.laws.specs.Encoded.{trim-extents}
 use Rattle.laws.specs.Tallies.{inRange, total, total-slots, in-range-slots, in-slots}
 use Rattle.laws.specs.Records.{words-records}
+use Rattle.laws.specs.Slots.{slots-length}
 use Rattle.laws.specs.States.{device-lines, device-blocks, device-at, state-storable, extents-in-use, valid-in-use}
-use Rattle.map.specs.Padded.{padded, Becomes, zeros-holds, padded-words}
+use Rattle.map.specs.Padded.{padded, without, without-length, Becomes, Gapped, zeros-holds, padded-words}
 use Rattle.map.specs.Sound.{SoundMap}
 use Rattle.cutting.specs.Cutting.{Cuttable}
 use Rattle.map.specs.Sound.{rows-sound}
@@ -52,6 +53,27 @@ holed l n s = trimmed 0 l n (deviceOf s)
 pub record Holed (l n : ℕ) (s : Lent) (u : ℕ) (ext blk : List ℕ) : Type 0 where
   pub map : Becomes (length (s .extentWords)) (cut l (l + n) (inUse s)) ext u
   pub blocks : blk ≡ wordsOf (holed l n s) .blockWords
+
+-- the same with the range not yet closed: the slots from a up to z, of u, are to go
+pub record Opened (l n : ℕ) (s : Lent) (before u a z : ℕ) (ext blk : List ℕ) : Type 0 where
+  pub map : Gapped (length (s .extentWords)) (cut l (l + n) (inUse s)) ext u a z
+  pub from : a ≡ before
+  pub blocks : blk ≡ wordsOf (holed l n s) .blockWords
+
+-- how many extents are left
+pub opened-used : {l n : ℕ} (s : Lent) {before u a z : ℕ} {ext blk : List ℕ} → Opened l n s before u a z ext blk → length (cut l (l + n) (inUse s)) + (z - a) ≡ u
+opened-used {l} {n} s {before} {u} {a} {z} {ext} w =
+    let size = slots-length ext 0 u in
+    let m = w .map in
+    omega (arith, ap length (m .is), without-length a z (slotsFrom ext 0 u) (m .order) (omega (arith, m .within)))
+
+-- and closed
+pub closed-holed : {l n : ℕ} (s : Lent) {before u a z : ℕ} {ext blk : List ℕ} (ext′ : List ℕ) → Opened l n s before u a z ext blk
+    → ext′ ≡ padded (length ext) (without a z (slotsFrom ext 0 u)) → Holed l n s (u - (z - a)) ext′ blk
+closed-holed s ext′ w e = record {
+  map = record { is = e ∙ ap₂ padded (w .map .long) (w .map .is); used = omega (arith, opened-used s w) };
+  blocks = w .blocks;
+}
 
 module _ (l n : ℕ) (s : Lent) (z : Cut l n s) where
   abbrev d : Device
@@ -154,9 +176,9 @@ module _ (l n : ℕ) (s : Lent) (z : Cut l n s) where
             w .valids b,
           )
 
-  pub holed-is : (used : ℕ) (ext blk : List ℕ) → Becomes (length (s .extentWords)) (cut l (l + n) (inUse s)) ext used
-      → Lowered (s .head .pages) l (l + n) (inUse s) (s .blockWords) blk → Holed l n s used ext blk
-  holed-is used ext blk b w = record { map = b; blocks = lowered-words blk w }
+  pub opened-is : (before u a c : ℕ) (ext blk : List ℕ) → Gapped (length (s .extentWords)) (cut l (l + n) (inUse s)) ext u a c → a ≡ before
+      → Lowered (s .head .pages) l (l + n) (inUse s) (s .blockWords) blk → Opened l n s before u a c ext blk
+  opened-is before u a c ext blk g e w = record { map = g; from = e; blocks = lowered-words blk w }
 
 -- ---- a trim
 

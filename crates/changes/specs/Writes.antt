@@ -4,7 +4,8 @@ use mathlib.Core.Bool.{Bool, true, false}
 use mathlib.Core.Path.{_≡_, refl, sym, ap, ap₂, _∙_, subst}
 use mathlib.Core.List.{List, [], _∷_, _++_}
 use native.Mathlib.Omega.{arith}
-use lib.ListN.{length, drop, length-append}
+use lib.ListN.{length, getD, take, drop, length-append, List·getD-append}
+use lib.Seq.{getD-take, length-take-le}
 use Rattle.rules.specs.Counting.{one, count}
 use Rattle.rules.specs.Extents.{none, extent, slot, slotsFrom, flat}
 use Rattle.rules.specs.Blocks.{stride, fillWord, validWord, records}
@@ -22,7 +23,7 @@ use Rattle.laws.specs.Rows.{Rows, rows-first}
 use Rattle.laws.specs.Shapes.{lines-pages, pages-high}
 use Rattle.laws.specs.Cut.{cut, cut-rows}
 use Rattle.laws.specs.Counts.{startsBefore, leftJoin, left-none, cut-length}
-use Rattle.laws.specs.Slots.{flat-length, slots-flat}
+use Rattle.laws.specs.Slots.{blank, flat-length, slots-length, slots-at, slots-flat}
 use Rattle.laws.specs.Ranked.{rows-ranked}
 use Rattle.laws.specs.Cells.{tabulate-same}
 use Rattle.laws.specs.Lines.{trimmed-sound}
@@ -34,15 +35,17 @@ use Rattle.laws.specs.Spread.{startBlock}
 use Rattle.laws.specs.Growth.{firstPlace, pieces-begin}
 use Rattle.laws.specs.Alike.{Alike, alike-free, alike-pieces, over-rise}
 use Rattle.laws.specs.States.{device-lines, device-blocks, device-fill, extents-in-use, state-storable}
-use Rattle.map.specs.Padded.{padded, padded-words, Becomes, became-length, became-slots, became-holds}
-use Rattle.putting.specs.Pieces.{putIn, Puttable}
+use Rattle.map.specs.Padded.{padded, padded-words, without, Becomes}
+use Rattle.map.specs.Clip.{at-slot}
+use Rattle.putting.specs.Pieces.{putIn}
+use Rattle.putting.specs.Fills.{Puttable}
 use Rattle.placing.specs.Bare.{bare, fillsOf, bare-alike}
 use Rattle.placing.specs.Place.{Placed, placed-alike, Placeable}
 use Rattle.writable.specs.Meeting.{Writable, Meets, piecesOf, grows}
 use Rattle.writable.specs.declared.Meeting.{Meeting}
 use Rattle.map.specs.Around.{trim-nodes}
 use Rattle.refusals.specs.Accepts.{Ready}
-use Rattle.changes.specs.Trims.{Cut, holed, Holed}
+use Rattle.changes.specs.Trims.{Cut, holed, Opened, opened-used}
 use Rattle.changes.specs.Puts.{piece-rows, put-extents}
 
 module _ (k l n : ℕ) (out : List ℕ) (s : Lent) (z : Ready (Call.write k l n out) s) where
@@ -52,12 +55,12 @@ module _ (k l n : ℕ) (out : List ℕ) (s : Lent) (z : Ready (Call.write k l n 
   storable : Storable (deviceOf s)
   storable = state-storable s (z .shape) (z .sound)
 
-  inside : l + n ≤ s .head .logical
-  inside = let i = z .taken .range .inside in omega (arith, device-lines s)
+  inside-lines : l + n ≤ s .head .logical
+  inside-lines = let i = z .taken .range .inside in omega (arith, device-lines s)
 
   pub write-writable : Writable l n s
   unfolding deviceOf
-  write-writable = record { shape = z .shape; sound = z .sound; some = z .taken .range .some; block = z .taken .block; inside = inside; enough = z .taken .pages }
+  write-writable = record { shape = z .shape; sound = z .sound; some = z .taken .range .some; block = z .taken .block; inside = inside-lines; enough = z .taken .pages }
 
   slots-same : puts l n (deviceOf s) .slots ≡ s .head .slots
   unfolding puts deviceOf
@@ -80,10 +83,10 @@ module _ (k l n : ℕ) (out : List ℕ) (s : Lent) (z : Ready (Call.write k l n 
       shape = z .shape;
       sound = z .sound;
       some = z .taken .range .some;
-      inside = inside;
+      inside = inside-lines;
       nodes = omega (
         arith,
-        trim-nodes s (z .shape) (z .sound) 0 l n (z .taken .range .some) inside,
+        trim-nodes s (z .shape) (z .sound) 0 l n (z .taken .range .some) inside-lines,
         grows l n s write-writable m e,
         e .sides .before,
         e .sides .after,
@@ -94,18 +97,16 @@ module _ (k l n : ℕ) (out : List ℕ) (s : Lent) (z : Ready (Call.write k l n 
       );
     }
 
-    module _ (u : ℕ) (ext blk : List ℕ) (w : Holed l n s u ext blk) where
-      held-used : u ≡ m .sides .before + m .sides .after
+    module _ (u a c : ℕ) (ext blk : List ℕ) (w : Opened l n s (m .sides .before) u a c ext blk) where
+      held-used : u ≡ m .sides .before + m .sides .after + (c - a)
       held-used =
-          w .map .used ∙ cut-length (s .head .pages) (s .head .logical) l (l + n) (inUse s) (z .sound .rows) ∙ omega (arith, e .sides .before, e .sides .after)
-
-      ext-length : length ext ≡ length (s .extentWords)
-      ext-length =
-          became-length (length (s .extentWords)) (cut l (l + n) (inUse s)) ext u (w .map .is) (sym (w .map .used))
-          (omega (arith, held-used, grows l n s write-writable m e, some-pieces, one-le (m .joined), z .taken .nodes, slots-same, z .shape .extents))
-
-      small : 3 * u ≤ length (s .extentWords)
-      small = omega (arith, held-used, grows l n s write-writable m e, some-pieces, one-le (m .joined), z .taken .nodes, slots-same, z .shape .extents)
+          omega (
+            arith,
+            opened-used s w,
+            cut-length (s .head .pages) (s .head .logical) l (l + n) (inUse s) (z .sound .rows),
+            e .sides .before,
+            e .sides .after,
+          )
 
       -- ---- the pages placed
 
@@ -151,7 +152,7 @@ module _ (k l n : ℕ) (out : List ℕ) (s : Lent) (z : Ready (Call.write k l n 
         blocks-few = z .shape .sizes .b-high;
         pages-few = z .shape .sizes .n-high;
         valid = λ b p. omega (arith, valid-at b p, fill-at b, valid-stale (holed l n s) trim-sound b (omega (arith, same-blocks)));
-        lines = omega (arith, inside, lines-pages (z .shape .sizes), pages-high (z .shape .sizes));
+        lines = omega (arith, inside-lines, lines-pages (z .shape .sizes), pages-high (z .shape .sizes));
         start = e .from ∙ (unfold deviceOf in ap (λ (fs : List ℕ). startBlock (s .head .pages) (s .head .reserve) fs n) (sym fills-are));
         room = omega (arith, alike-free (bare (s .head .blocks) (s .head .pages) (s .head .reserve) blk (s .spare)) (deviceOf s) alike, z .taken .pages);
         slots = omega (arith, ap length (alike-pieces l n (bare (s .head .blocks) (s .head .pages) (s .head .reserve) blk (s .spare)) (deviceOf s) alike), z .taken .room);
@@ -183,15 +184,24 @@ module _ (k l n : ℕ) (out : List ℕ) (s : Lent) (z : Ready (Call.write k l n 
 
         -- ---- the pieces put in
 
-        cut-slots : slotsFrom ext 0 u ≡ cut l (l + n) (inUse s)
-        cut-slots = became-slots (length (s .extentWords)) (cut l (l + n) (inUse s)) ext u (w .map .is) (sym (w .map .used)) small
-
-        -- an extent has at most N pages
-        short : (i : ℕ) → i < u → slot ext i .count ≤ 256
-        short i q =
-            let rows = subst (λ (es : List Extent). Rows (s .head .pages) 0 none (s .head .logical) es) (sym cut-slots)
-            (cut-rows (s .head .pages) (s .head .logical) l (l + n) (inUse s) (omega (arith, z .taken .range .some)) inside (z .sound .rows)) in
-            omega (arith, rows-ranked (s .head .pages) (s .head .logical) ext u rows .inside i q, z .shape .sizes .n-high)
+        -- the extent before the gap has at most N pages
+        short : 1 ≤ a → slot ext (a - 1) .count ≤ 256
+        short q =
+            let left = cut l (l + n) (inUse s) in
+            let words = flat left ++ [] in
+            let i = a - 1 in
+            let es = slotsFrom ext 0 u in
+            let few : length (take a es) ≡ a = length-take-le a es (omega (arith, slots-length ext 0 u, w .map .order, w .map .within)) in
+            let here : slot ext i ≡ getD left i blank =
+            sym (at-slot ext u i (omega (arith, w .map .order, w .map .within))) ∙ sym (getD-take a es i blank (omega arith))
+            ∙ sym (List·getD-append (take a es) (drop c es) blank i (omega arith)) ∙ ap (λ (xs : List Extent). getD xs i blank) (w .map .is) in
+            let inside : i < length left = omega (arith, opened-used s w, held-used, w .from) in
+            let same : slotsFrom words 0 (length left) ≡ left = slots-flat left [] in
+            let there : slot words i ≡ getD left i blank = sym (slots-at words 0 (length left) i i blank inside (omega arith)) ∙ ap (λ (xs : List Extent). getD xs i blank) same in
+            let rows = subst (λ (xs : List Extent). Rows (s .head .pages) 0 none (s .head .logical) xs) (sym same)
+            (cut-rows (s .head .pages) (s .head .logical) l (l + n) (inUse s) (omega (arith, z .taken .range .some)) inside-lines (z .sound .rows)) in
+            let most = rows-ranked (s .head .pages) (s .head .logical) words (length left) rows .inside i inside in
+            omega (arith, ap (λ (x : Extent). x .count) (here ∙ sym there), most, z .shape .sizes .n-high)
 
         short-piece : slot out′ 0 .count ≤ 256
         short-piece =
@@ -213,21 +223,23 @@ module _ (k l n : ℕ) (out : List ℕ) (s : Lent) (z : Ready (Call.write k l n 
                 ))
             go (suc b) f = omega arith
 
-        pub puttable : Puttable ext u (m .sides .before) (m .joined) out′ r
+        pub puttable : Puttable ext u a c (m .joined) out′ r
         puttable = record {
-          held = became-holds (length (s .extentWords)) (cut l (l + n) (inUse s)) ext u (w .map .is) (sym (w .map .used)) small;
-          within = omega (arith, held-used);
+          held = w .map .held;
+          order = w .map .order;
+          within = w .map .within;
           some = omega (arith, placed .many, some-pieces);
           fits = out-length;
-          room = omega (arith, held-used, placed .many, grows l n s write-writable m e, z .taken .nodes, slots-same, ext-length, z .shape .extents);
-          joins = λ t. let a = joins-some t in (a, omega (arith, short (m .sides .before - 1) (omega (arith, held-used)), short-piece));
+          room = omega (arith, held-used, placed .many, grows l n s write-writable m e, z .taken .nodes, slots-same, w .map .long, z .shape .extents);
+          joins = λ t. let one = joins-some t in let b : 1 ≤ a = omega (arith, w .from) in (b, omega (arith, short b, short-piece));
         }
 
-        module _ (ext′ : List ℕ) (v : ℕ) (q : Becomes (length ext) (putIn (m .sides .before) (m .joined) (slotsFrom out′ 0 r) (slotsFrom ext 0 u)) ext′ v) where
-          after : putIn (m .sides .before) (m .joined) (slotsFrom out′ 0 r) (slotsFrom ext 0 u) ≡ extents (puts l n (deviceOf s))
+        module _ (ext′ : List ℕ) (v : ℕ) (q : Becomes (length ext) (putIn a (m .joined) (slotsFrom out′ 0 r) (without a c (slotsFrom ext 0 u))) ext′ v) where
+          after : putIn a (m .joined) (slotsFrom out′ 0 r) (without a c (slotsFrom ext 0 u)) ≡ extents (puts l n (deviceOf s))
           after =
               let es = extents-in-use s (z .shape) (z .sound) in
-              ap₂ (λ (ps cs : List Extent). putIn (m .sides .before) (m .joined) ps cs) listed (cut-slots ∙ ap (cut l (l + n)) (sym es))
+              ap (λ (i : ℕ). putIn i (m .joined) (slotsFrom out′ 0 r) (without a c (slotsFrom ext 0 u))) (w .from)
+              ∙ ap₂ (λ (ps cs : List Extent). putIn (m .sides .before) (m .joined) ps cs) listed (w .map .is ∙ ap (cut l (l + n)) (sym es))
               ∙ put-extents l n (deviceOf s) (storable .sound) (z .taken .range .some) (z .taken .pages) (z .taken .range .inside) (m .sides .before) (m .joined)
               (e .sides .before ∙ ap (startsBefore l) (sym es))
               (e .joined write-writable ∙ (unfold deviceOf in ap (leftJoin (s .head .pages) (extent l (firstPlace l n (deviceOf s)) 1)) (sym es)))
@@ -239,7 +251,7 @@ module _ (k l n : ℕ) (out : List ℕ) (s : Lent) (z : Ready (Call.write k l n 
 
           ext-is : ext′ ≡ wordsOf (puts l n (deviceOf s)) .extentWords
           ext-is =
-              let x : length ext ≡ 3 * puts l n (deviceOf s) .slots = omega (arith, ext-length, z .shape .extents, slots-same) in
+              let x : length ext ≡ 3 * puts l n (deviceOf s) .slots = omega (arith, w .map .long, z .shape .extents, slots-same) in
               q .is ∙ ap₂ padded x after ∙ padded-words (puts l n (deviceOf s))
 
           valid-is : (b : ℕ) → b < s .head .blocks → valid (puts l n (deviceOf s)) b ≡ validWord blk′ b

@@ -1,9 +1,9 @@
 -- A cut in place, step by step: what each step asks for, and what stands in the words at the end.
 use Prim.Native.Nat.{ℕ, _+_, _-_, _*_, _≤_, _<_}
-use mathlib.Core.Path.{_≡_, sym, ap, ap₂, _∙_, subst}
-use mathlib.Core.List.{List, _++_}
+use mathlib.Core.Path.{_≡_, sym, ap, _∙_, subst}
+use mathlib.Core.List.{List}
 use native.Mathlib.Omega.{arith}
-use lib.ListN.{length, getD, take, drop}
+use lib.ListN.{length, getD, take-append-drop}
 use Rattle.rules.specs.Extents.{end, slot, slotsFrom}
 use Rattle.rules.specs.declared.Extent.{Extent}
 use Rattle.laws.specs.Cut.{cut}
@@ -11,7 +11,7 @@ use Rattle.laws.specs.Slots.{blank, slots-length}
 use Rattle.laws.specs.Counts.{startsBefore, endsAfter, cut-length, cut-bound}
 use Rattle.map.specs.Sound.{SoundMap, Piece, sound-piece}
 use Rattle.map.specs.Around.{starts-le, ends-le}
-use Rattle.map.specs.Padded.{padded, Holds, Becomes, became-length, became-slots, became-holds}
+use Rattle.map.specs.Padded.{padded, without, Holds, Gapped, became-length, became-slots, became-holds}
 use Rattle.map.specs.Clip.{clipRight, clipLeft, splitAt, clip-right-length, clip-left-length, right-at, at-slot, sound-starts, sound-ends, cut-apart, cut-split}
 
 -- l up to e can be cut out of the extents in u slots
@@ -71,11 +71,20 @@ module _ (ws : List ℕ) (u l e before after : ℕ) (k : Cuttable ws u l e) (b :
         sound-piece ws u s z in-use,
       )
 
-  pub split-done : z < before → (ws′ : List ℕ) → ws′ ≡ padded (length ws) (splitAt l e z es) → Becomes (length ws) (cut l e es) ws′ (u + 1)
-  split-done a ws′ g = record {
-    is = g ∙ ap (padded (length ws)) (cut-split (s .pages) (s .logical) l e es before z (s .rows) b (rest ∙ sym size) (omega (arith, most, after-le)));
-    used = omega (arith, count, most, after-le);
-  }
+  -- the right part stands behind the left one, and nothing is to go
+  pub split-done : z < before → (ws′ : List ℕ) → ws′ ≡ padded (length ws) (splitAt l e z es) → Gapped (length ws) (cut l e es) ws′ (u + 1) before before
+  split-done a ws′ g =
+      let left : ws′ ≡ padded (length ws) (cut l e es) =
+      g ∙ ap (padded (length ws)) (cut-split (s .pages) (s .logical) l e es before z (s .rows) b (rest ∙ sym size) (omega (arith, most, after-le))) in
+      let many : length (cut l e es) ≡ u + 1 = omega (arith, count, most, after-le) in
+      let fits : 3 * (u + 1) ≤ length ws = omega (arith, k .room) in
+      record {
+        long = became-length (length ws) (cut l e es) ws′ (u + 1) left many fits;
+        held = became-holds (length ws) (cut l e es) ws′ (u + 1) left many fits;
+        order = omega arith;
+        within = omega (arith, before-le);
+        is = take-append-drop before (slotsFrom ws′ 0 (u + 1)) ∙ became-slots (length ws) (cut l e es) ws′ (u + 1) left many fits;
+      }
 
   -- ---- extents of its own on each side
 
@@ -107,20 +116,16 @@ module _ (ws : List ℕ) (u l e before after : ℕ) (k : Cuttable ws u l e) (b :
       both : length (clipLeft e z (slotsFrom mid 0 u)) ≡ u
       both = clip-left-length e z (slotsFrom mid 0 u) ∙ slots-length mid 0 u
 
-      pub close-ready : Holds mid₂ u × (before ≤ z) × (z ≤ u)
-      close-ready = (became-holds (length mid) (clipLeft e z (slotsFrom mid 0 u)) mid₂ u g₂ both (mid-holds .fits), a, omega arith)
-
-      pub cut-done : (ws′ : List ℕ) → ws′ ≡ padded (length mid₂) (take before (slotsFrom mid₂ 0 u) ++ drop z (slotsFrom mid₂ 0 u))
-          → Becomes (length ws) (cut l e es) ws′ (before + after)
-      cut-done ws′ g₃ =
-          let words : length mid₂ ≡ length ws =
-          became-length (length mid) (clipLeft e z (slotsFrom mid 0 u)) mid₂ u g₂ both (mid-holds .fits)
-          ∙ became-length (length ws) (clipRight l before es) mid u g clipped (h .fits) in
+      pub cut-done : Gapped (length ws) (cut l e es) mid₂ u before z
+      cut-done =
           let held : slotsFrom mid₂ 0 u ≡ clipLeft e z (clipRight l before es) =
           became-slots (length mid) (clipLeft e z (slotsFrom mid 0 u)) mid₂ u g₂ both (mid-holds .fits) ∙ ap (clipLeft e z) mid-slots in
           record {
-            is =
-                g₃ ∙ ap₂ (λ (m : ℕ) (xs : List Extent). padded m (take before xs ++ drop z xs)) words held
-                ∙ ap (padded (length ws)) (cut-apart (s .pages) (s .logical) l e es before z (s .rows) b (rest ∙ sym size) a);
-            used = sym count;
+            long =
+                became-length (length mid) (clipLeft e z (slotsFrom mid 0 u)) mid₂ u g₂ both (mid-holds .fits)
+                ∙ became-length (length ws) (clipRight l before es) mid u g clipped (h .fits);
+            held = became-holds (length mid) (clipLeft e z (slotsFrom mid 0 u)) mid₂ u g₂ both (mid-holds .fits);
+            order = a;
+            within = omega arith;
+            is = ap (without before z) held ∙ cut-apart (s .pages) (s .logical) l e es before z (s .rows) b (rest ∙ sym size) a;
           }

@@ -1,31 +1,18 @@
 // A range cut out of the extents, in place. Assumed are the extents of a sound state, the sides of the range among them and a slot for what is taken
-// apart; promised is the list of extents without the range, and zeros behind it.
+// apart; promised are the extents without the range, but for a gap among them that is still to be closed or filled.
+use map::Gap;
 use map::Sides;
 use rules::Extent;
 ghost use mathlib.Core.Path.{_≡_};
 ghost use Prim.Native.Nat.{ℕ, _+_, _*_, _<_, _≤_};
-ghost use mathlib.Core.List.{_++_};
-ghost use lib.ListN.{length, take, drop};
+ghost use lib.ListN.{length};
 ghost use Rattle.rules.specs.Extents.{end, slot, slotsFrom};
 ghost use Rattle.laws.specs.Cut.{cut};
 ghost use Rattle.map.specs.Sound.{Piece};
 ghost use Rattle.map.specs.Around.{Beside};
-ghost use Rattle.map.specs.Padded.{padded, Holds, Becomes};
+ghost use Rattle.map.specs.Padded.{padded, Holds, Gapped};
 ghost use Rattle.map.specs.Clip.{clipRight, clipLeft, splitAt};
 ghost use Rattle.cutting.specs.Cutting.{Cuttable};
-
-// The slots from a up to z go, and those from z on move down. Where none goes, none moves.
-fn close(ext: &mut [u32], used: usize, a: usize, z: usize)
-    requires { ⌜ Holds (now ext) used × (a ≤ z) × (z ≤ used) ⌝ }
-    ensures { λ _. ⌜ now (ext .exit) ≡ padded (length (now (ext .entry))) (take a (slotsFrom (now (ext .entry)) 0 used) ++ drop z (slotsFrom (now (ext .entry)) 0 used)) ⌝ }
-{
-    if z <= a {
-        return;
-    }
-    let at = 3 * a;
-    let top = 3 * used;
-    words::shift_down(&mut ext[at..top], 3 * (z - a));
-}
 
 // Of a extents the last, which starts before l, ends there at the latest.
 fn clip_right(ext: &mut [u32], used: usize, a: usize, l: u32)
@@ -92,19 +79,26 @@ fn split(ext: &mut [u32], used: usize, i: usize, l: u32, e: u32)
     words::put_slot(ext, i, left);
 }
 
-// The extents without the logical pages from l up to e, whose sides are given. The slots then in use are returned.
-pub fn cut_out(ext: &mut [u32], used: usize, sides: Sides, l: u32, e: u32) -> usize
+// The logical pages from l up to e, whose sides are given, cut out of the extents, but for the slots that they cover whole: these are left as a gap.
+pub fn open_gap(ext: &mut [u32], used: usize, sides: Sides, l: u32, e: u32) -> Gap
     requires { ⌜ Cuttable (now ext) used l e × Beside l e (slotsFrom (now ext) 0 used) sides ⌝ }
-    ensures { λ r. ⌜ Becomes (length (now (ext .entry))) (cut l e (slotsFrom (now (ext .entry)) 0 used)) (now (ext .exit)) r ⌝ }
+    ensures { λ g. ⌜ Gapped (length (now (ext .entry))) (cut l e (slotsFrom (now (ext .entry)) 0 used)) (now (ext .exit)) (g .used) (g .from) (g .to) × (g .from ≡ sides .before) ⌝ }
 {
     let a = sides.before;
     let z = used - sides.after;
     if z < a {
         split(ext, used, z, l, e);
-        return used + 1;
+        return Gap {
+            used: used + 1,
+            from: a,
+            to: a,
+        };
     }
     clip_right(ext, used, a, l);
     clip_left(ext, used, z, e);
-    close(ext, used, a, z);
-    a + sides.after
+    Gap {
+        used: used,
+        from: a,
+        to: z,
+    }
 }

@@ -33,12 +33,19 @@ unfolding slotsFrom
 slots-first ws i u h = let e : u - i ≡ suc (u - (i + 1)) = omega arith in ap (slotsFrom ws i) e
 
 -- one slot more stands at the end
+pub slots-join : (ws : List ℕ) (i u v k m : ℕ) → k ≡ u + v → m ≡ i + u → slotsFrom ws i k ≡ slotsFrom ws i u ++ slotsFrom ws m v
+unfolding slotsFrom
+slots-join ws i zero v k m e g =
+    let a : k ≡ v = omega arith in
+    let b : i ≡ m = omega arith in
+    ap₂ (λ (x y : ℕ). slotsFrom ws x y) b a
+slots-join ws i (suc u) v k m e g =
+    let a : k ≡ suc (u + v) = omega arith in
+    ap (slotsFrom ws i) a ∙ ap (λ (es : List Extent). slot ws i ∷ es) (slots-join ws (i + 1) u v (u + v) m refl (omega arith))
+
 pub slots-more : (ws : List ℕ) (i u j : ℕ) → j ≡ i + u → slotsFrom ws i (u + 1) ≡ slotsFrom ws i u ++ slot ws j ∷ []
 unfolding slotsFrom
-slots-more ws i zero j e = let at : i ≡ j = omega arith in ap (λ (k : ℕ). slot ws k ∷ []) at
-slots-more ws i (suc u) j e =
-    let s : suc u + 1 ≡ suc (u + 1) = omega arith in
-    rw s (ap (λ (es : List Extent). slot ws i ∷ es) (slots-more ws (i + 1) u j (omega arith)))
+slots-more ws i u j e = slots-join ws i u 1 (u + 1) j refl e
 
 triple : (s : ℕ) → 3 * suc s ≡ suc (suc (suc (3 * s)))
 triple s = omega arith

@@ -44,6 +44,17 @@ unfolding spliced
 spliced-length i new es h =
     omega (arith, length-append (take i es) (new ++ drop i es), length-append new (drop i es), length-take-le i es h, length-drop i es)
 
+pub spliced-seam : (i : ℕ) (new xs ys : List Extent) → length xs ≡ i → spliced i new (xs ++ ys) ≡ xs ++ (new ++ ys)
+unfolding spliced
+spliced-seam i new xs ys h = ap₂ (λ (a b : List Extent). a ++ (new ++ b)) (take-at xs ys i h) (drop-at xs ys i h)
+
+-- the slots from a up to z taken out
+abbrev pub without : ℕ → ℕ → List Extent → List Extent
+without a z es = take a es ++ drop z es
+
+pub without-length : (a z : ℕ) (es : List Extent) → a ≤ z → z ≤ length es → length (without a z es) + (z - a) ≡ length es
+without-length a z es s t = omega (arith, length-append (take a es) (drop z es), length-take-le a es (omega arith), length-drop z es)
+
 -- ---- words that hold the extents of their first u slots and nothing else
 
 pub record Holds (ws : List ℕ) (u : ℕ) : Type 0 where
@@ -78,6 +89,14 @@ module _ (m : ℕ) (es : List Extent) (ws : List ℕ) (u : ℕ) (e : ws ≡ padd
 pub record Becomes (m : ℕ) (es : List Extent) (ws : List ℕ) (r : ℕ) : Type 0 where
   pub is : ws ≡ padded m es
   pub used : r ≡ length es
+
+-- m words that hold extents in u slots, of which those from a up to z are to go: the others are es
+pub record Gapped (m : ℕ) (es : List Extent) (ws : List ℕ) (u a z : ℕ) : Type 0 where
+  pub long : length ws ≡ m
+  pub held : Holds ws u
+  pub order : a ≤ z
+  pub within : z ≤ u
+  pub is : without a z (slotsFrom ws 0 u) ≡ es
 
 -- ---- one slot stored
 
@@ -186,8 +205,32 @@ module _ (ws : List ℕ) (u : ℕ) (h : Holds ws u) where
         ∙ sym (append-assoc (flat pieces) moved rest) ∙ ap (λ (t : List ℕ). t ++ rest) (sym (flat-append pieces (drop i es))))
         ∙ laid-out (take i es) (pieces ++ drop i es) (m - 3 * (u + k)) more
 
+  -- f slots from a on stored
+  pub holds-over : (a f : ℕ) (new zs : List ℕ) → a + f ≤ u → length new ≡ 3 * f → zs ≡ new
+      → putMid (3 * a) (3 * (a + f) - 3 * a) ws zs ≡ padded m (take a es ++ (slotsFrom new 0 f ++ drop (a + f) es))
+  holds-over a f new zs s n g =
+      let p1 = slotsFrom new 0 f in
+      let at : 3 * a + (3 * (a + f) - 3 * a) ≡ 3 * (a + f) = omega arith in
+      let words : zs ≡ flat p1 = g ∙ sym (flat-slots new f (omega arith) ∙ take-all (3 * f) new (omega arith)) in
+      let rest : List ℕ = replicate (m - 3 * u) 0 in
+      let behind : drop (3 * (a + f) - 3 * a) (drop (3 * a) ws) ≡ flat (drop (a + f) es) ++ rest =
+      drop-drop (3 * (a + f) - 3 * a) (3 * a) ws ∙ ap (λ (j : ℕ). drop j ws) at ∙ back (a + f) s in
+      let as-many : m - 3 * u ≡ m - 3 * length (take a es ++ (p1 ++ drop (a + f) es)) =
+      omega (
+        arith,
+        length-append (take a es) (p1 ++ drop (a + f) es),
+        length-append p1 (drop (a + f) es),
+        length-take-le a es (omega (arith, size)),
+        length-drop (a + f) es,
+        slots-length new 0 f,
+        size,
+      ) in
+      ap₂ (λ (x y : List ℕ). x ++ y) (front a (omega arith)) (ap₂ (λ (x y : List ℕ). x ++ y) words behind
+      ∙ sym (append-assoc (flat p1) (flat (drop (a + f) es)) rest) ∙ ap (λ (t : List ℕ). t ++ rest) (sym (flat-append p1 (drop (a + f) es))))
+      ∙ laid-out (take a es) (p1 ++ drop (a + f) es) (m - 3 * u) as-many
+
   -- no slots taken out
-  pub holds-same : (a z : ℕ) → a ≡ z → ws ≡ padded m (take a es ++ drop z es)
+  pub holds-same : (a z : ℕ) → a ≡ z → ws ≡ padded m (without a z es)
   holds-same a z e = h .is ∙ ap (padded m) (sym (take-append-drop a es) ∙ ap (λ (j : ℕ). take a es ++ drop j es) e)
 
   -- the slots from a up to z taken out
@@ -214,7 +257,7 @@ module _ (ws : List ℕ) (u : ℕ) (h : Holds ws u) where
 
     -- as `shift_down` gives the part from a on back
     pub holds-close : (ys : List ℕ) → ys ≡ drop (3 * (z - a)) (midOf (3 * a) (3 * u - 3 * a) ws) ++ replicate (3 * (z - a)) 0
-        → putMid (3 * a) (3 * u - 3 * a) ws ys ≡ padded m (take a es ++ drop z es)
+        → putMid (3 * a) (3 * u - 3 * a) ws ys ≡ padded m (without a z es)
     holds-close ys e =
         let gap : List ℕ = replicate (3 * (z - a)) 0 in
         let new : ys ≡ flat (drop z es) ++ gap = e ∙ ap (λ (w : List ℕ). drop (3 * (z - a)) w ++ gap) lent-down ∙ ap (λ (w : List ℕ). w ++ gap) kept in

@@ -1,4 +1,4 @@
-// The extents of a sound state: where a page and a range meet them, found by halving the slots, and extents let in. `Holds` says that words are
+// The extents of a sound state: where a page and a range meet them, found by halving the slots; extents let in, and slots that go. `Holds` says that words are
 // extents in their first slots and zeros behind; whatever changes the map, here, in `cutting` and in `putting`, leaves it so.
 ghost use mathlib.Core.Path.{_≡_};
 ghost use Prim.Native.Nat.{_+_, _*_, _<_, _≤_, _^_};
@@ -8,7 +8,7 @@ ghost use Rattle.laws.specs.Counts.{startsBefore};
 ghost use Rattle.map.specs.Sound.{SoundMap};
 ghost use Rattle.map.specs.Halved.{endsBy};
 ghost use Rattle.map.specs.Around.{Beside, joinsBefore};
-ghost use Rattle.map.specs.Padded.{padded, spliced, Holds};
+ghost use Rattle.map.specs.Padded.{padded, spliced, without, Holds};
 
 // Where slot i ends, as a whole number.
 pub fn end_of(ext: &[u32], i: usize) -> u64
@@ -37,6 +37,13 @@ pub fn first_after(ext: &[u32], used: usize, page: u64) -> usize
         }
     }
     first
+}
+
+// A place in the extents in use that is to be closed or filled: the slots from `from` up to `to` are to go.
+pub struct Gap {
+    pub used: usize,
+    pub from: usize,
+    pub to: usize,
 }
 
 // Where a range meets the extents in use: the first slot that ends after the range begins, how many extents start before it, and how many
@@ -111,4 +118,17 @@ pub fn insert(ext: &mut [u32], used: usize, i: usize, new: &[u32], k: usize)
     let top = 3 * (used + k);
     words::shift_up(&mut ext[at..top], 3 * k);
     words::put_words(&mut ext[at..to], new);
+}
+
+// The slots from a up to z go, and those from z on move down. Where none goes, none moves.
+pub fn close(ext: &mut [u32], used: usize, a: usize, z: usize)
+    requires { ⌜ Holds (now ext) used × (a ≤ z) × (z ≤ used) ⌝ }
+    ensures { λ _. ⌜ now (ext .exit) ≡ padded (length (now (ext .entry))) (without a z (slotsFrom (now (ext .entry)) 0 used)) ⌝ }
+{
+    if z <= a {
+        return;
+    }
+    let at = 3 * a;
+    let top = 3 * used;
+    words::shift_down(&mut ext[at..top], 3 * (z - a));
 }

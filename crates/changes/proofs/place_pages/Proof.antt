@@ -11,11 +11,11 @@ abbrev state : tie.Start → Lent
 state s = lent (s .args .h) (s .args .ext .now) (s .args .blk .now) (s .args .spare .now)
 
 -- where the range is cut out
-abbrev start : tie.After-cut-range → tie.Start
+abbrev start : tie.After-open-range → tie.Start
 start w = w .before .before .before .before .before .before .before .before .before
 
-cut-range-requires : tie.Need-cut-range-requires
-cut-range-requires c κs =
+open-range-requires : tie.Need-open-range-requires
+open-range-requires c κs =
     let s = c .before .before .before .before .before .before .before .before in
     let a = s .args in
     (write-cut (a .number) (a .l) (a .n) (a .out .now) (state s) (s .pre .0) (a .m) (s .pre .1), s .pre .1 .sides)
@@ -25,13 +25,7 @@ place-requires c κs =
     let w = c .before .before .before .before .before .before .before in
     let s = start w in
     let a = s .args in
-    placeable (a .number) (a .l) (a .n) (a .out .now) (state s) (s .pre .0) (a .m) (s .pre .1) _ _ _ (w .cut-range .ensures)
-
-cast-put-pieces : tie.Need-cast-put-pieces
-cast-put-pieces c = search needs
-
-cast-put-pieces-2 : tie.Need-cast-put-pieces-2
-cast-put-pieces-2 c = search needs
+    placeable (a .number) (a .l) (a .n) (a .out .now) (state s) (s .pre .0) (a .m) (s .pre .1) _ _ _ _ _ (w .open-range .ensures)
 
 put-pieces-requires : tie.Need-put-pieces-requires
 put-pieces-requires c κs =
@@ -39,35 +33,20 @@ put-pieces-requires c κs =
     let w = p .before .before .before .before .before .before .before .before in
     let s = start w in
     let a = s .args in
-    puttable (a .number) (a .l) (a .n) (a .out .now) (state s) (s .pre .0) (a .m) (s .pre .1) _ _ _ (w .cut-range .ensures)
+    puttable (a .number) (a .l) (a .n) (a .out .now) (state s) (s .pre .0) (a .m) (s .pre .1) _ _ _ _ _ (w .open-range .ensures)
     _ _ _ _ (c .before .before .before .before .before .before .before .blk2 .given) (p .place .ensures)
 
-cast-g : tie.Need-cast-g
-cast-g c =
+cast-left : tie.Need-cast-left
+cast-left c =
     let p = c .before .before .before .before .before .before .before .before .before .before .before in
     let w = p .before .before .before .before .before .before .before .before in
     let s = start w in
     let a = s .args in
     omega (
       arith,
-      write-few (a .number) (a .l) (a .n) (a .out .now) (state s) (s .pre .0) (a .m) (s .pre .1) _ _ _ (w .cut-range .ensures)
+      write-few (a .number) (a .l) (a .n) (a .out .now) (state s) (s .pre .0) (a .m) (s .pre .1) _ _ _ _ _ (w .open-range .ensures)
           _ _ _ _ (c .before .before .before .before .before .before .before .before .before .before .blk2 .given) (p .place .ensures) _ _ (c .before .before .put-pieces .ensures),
     )
-
-kept-requires : tie.Need-kept-requires
-kept-requires c κs = search needs
-
-same-length : tie.Need-same-length
-same-length c = search needs
-
-same-length-2 : tie.Need-same-length-2
-same-length-2 c = search needs
-
-same-length-3 : tie.Need-same-length-3
-same-length-3 c = search needs
-
-same-length-4 : tie.Need-same-length-4
-same-length-4 c = search needs
 
 returns : tie.Need-returns
 returns c =
@@ -79,24 +58,13 @@ returns c =
     let size = e .before .before .before .before .before .before .before .before .before .before .blk2 .given in
     let put = e .before .before .put-pieces .ensures in
     accepts (Call.write (a .number) (a .l) (a .n) (a .out .now)) (state s) (s .pre .0) _ _ _
-    (write-counts (a .number) (a .l) (a .n) (a .out .now) (state s) (s .pre .0) (a .m) (s .pre .1) _ _ _ (w .cut-range .ensures) _ _ _ _ size (p .place .ensures) _ _ put)
-    (write-leaves (a .number) (a .l) (a .n) (a .out .now) (state s) (s .pre .0) (a .m) (s .pre .1) _ _ _ (w .cut-range .ensures) _ _ _ _ size (p .place .ensures) _ _ put
+    (write-counts (a .number) (a .l) (a .n) (a .out .now) (state s) (s .pre .0) (a .m) (s .pre .1) _ _ _ _ _ (w .open-range .ensures) _ _ _ _ size (p .place .ensures) _ _ put)
+    (write-leaves (a .number) (a .l) (a .n) (a .out .now) (state s) (s .pre .0) (a .m) (s .pre .1) _ _ _ _ _ (w .open-range .ensures) _ _ _ _ size (p .place .ensures) _ _ put
     (c .kept .result) (c .kept .ensures))
-    (write-lists (a .number) (a .l) (a .n) (a .out .now) (state s) (s .pre .0) (a .m) (s .pre .1) _ _ _ (w .cut-range .ensures) _ _ _ _ size (p .place .ensures) _ _ put)
+    (write-lists (a .number) (a .l) (a .n) (a .out .now) (state s) (s .pre .0) (a .m) (s .pre .1) _ _ _ _ _ (w .open-range .ensures) _ _ _ _ size (p .place .ensures) _ _ put)
 
 pub place-pages-spec : {M : Type 1} → statement M
 place-pages-spec =
     tie.close
-    (tie.spec
-    cut-range-requires
-    place-requires
-    cast-put-pieces
-    cast-put-pieces-2
-    put-pieces-requires
-    cast-g
-    kept-requires
-    same-length
-    same-length-2
-    same-length-3
-    same-length-4
-    returns)
+    (tie.spec open-range-requires place-requires (λ c. search needs) put-pieces-requires cast-left (λ c κs. search needs)
+    (λ c. search needs) (λ c. search needs) (λ c. search needs) (λ c. search needs) returns)

@@ -1,5 +1,5 @@
 use native.Mathlib.Omega.{arith}
-use Rattle.putting.specs.Pieces.{lengthened-set}
+use Rattle.putting.specs.Fills.{lengthened-set}
 use borrow.Author.Needs.{needs}
 use Rattle.putting.proofs.lengthen.Statement.{statement}
 use Rattle.putting.proofs.lengthen.Tie as tie

@@ -1,9 +1,9 @@
 -- Nothing goes, or the lent part comes back moved down.
 use Rattle.map.specs.Padded.{holds-same, holds-close}
 use native.Mathlib.Omega.{arith}
 use borrow.Author.Needs.{needs}
-use Rattle.cutting.proofs.close.Statement.{statement}
-use Rattle.cutting.proofs.close.Tie as tie
+use Rattle.map.proofs.close.Statement.{statement}
+use Rattle.map.proofs.close.Tie as tie
 
 returns : tie.Need-returns
 returns c =

@@ -1,9 +1,10 @@
--- The steps of `Cutting`: the extent on both sides taken apart, or each side clipped and the gap closed.
-use Rattle.cutting.specs.Cutting.{after-le, split-ready, split-done, right-ready, left-ready, close-ready, cut-done}
+-- The steps of `Cutting`: the extent on both sides taken apart, or each side clipped.
+use Rattle.cutting.specs.Cutting.{after-le, split-ready, split-done, right-ready, left-ready, cut-done}
+use mathlib.Core.Path.{refl}
 use native.Mathlib.Omega.{arith}
 use borrow.Author.Needs.{needs}
-use Rattle.cutting.proofs.cut_out.Statement.{statement}
-use Rattle.cutting.proofs.cut_out.Tie as tie
+use Rattle.cutting.proofs.open_gap.Statement.{statement}
+use Rattle.cutting.proofs.open_gap.Tie as tie
 
 -- where the extent before the range is clipped
 abbrev start : tie.After-clip-right → tie.Start
@@ -25,7 +26,7 @@ returns : tie.Need-returns
 returns c =
     let s = c .before .before .before .before .before .before .before in
     let a = s .args in
-    split-done (a .ext .now) (a .used) (a .l) (a .e) _ _ (s .pre .0) (s .pre .1 .before) (s .pre .1 .after) (omega arith) _ (c .before .before .split .ensures)
+    (split-done (a .ext .now) (a .used) (a .l) (a .e) _ _ (s .pre .0) (s .pre .1 .before) (s .pre .1 .after) (omega arith) _ (c .before .before .split .ensures), refl)
 
 clip-right-requires : tie.Need-clip-right-requires
 clip-right-requires c κs =
@@ -41,27 +42,19 @@ clip-left-requires c κs =
     left-ready (a .ext .now) (a .used) (a .l) (a .e) _ _ (s .pre .0) (s .pre .1 .before) (s .pre .1 .after)
     (omega arith) _ (r .clip-right .ensures)
 
-close-requires : tie.Need-close-requires
-close-requires c κs =
-    let f = c .before .before .before in
-    let r = f .before .before .before .before in
-    let s = start r in
-    let a = s .args in
-    close-ready (a .ext .now) (a .used) (a .l) (a .e) _ _ (s .pre .0) (s .pre .1 .before) (s .pre .1 .after)
-    (omega arith) _ (r .clip-right .ensures) _ (f .clip-left .ensures)
-
 returns-2 : tie.Need-returns-2
 returns-2 c =
-    let z = c .before .before .before in
-    let f = z .before .before .before .before in
+    let f = c .before .before in
     let r = f .before .before .before .before in
     let s = start r in
-    let a = s .args in
-    cut-done (a .ext .now) (a .used) (a .l) (a .e) _ _ (s .pre .0) (s .pre .1 .before) (s .pre .1 .after)
-    (omega arith) _ (r .clip-right .ensures) _ (f .clip-left .ensures) _ (z .close .ensures)
+    let a = s .args in (
+      cut-done (a .ext .now) (a .used) (a .l) (a .e) _ _ (s .pre .0) (s .pre .1 .before) (s .pre .1 .after)
+          (omega arith) _ (r .clip-right .ensures) _ (f .clip-left .ensures),
+      refl,
+    )
 
-pub cut-out-spec : {M : Type 1} → statement M
-cut-out-spec =
+pub open-gap-spec : {M : Type 1} → statement M
+open-gap-spec =
     tie.close
-    (tie.spec sub-z split-requires (λ c. search needs) (λ c. search needs) returns clip-right-requires clip-left-requires close-requires
-    (λ c. search needs) (λ c. search needs) returns-2)
+    (tie.spec sub-z split-requires (λ c. search needs) (λ c. search needs) returns clip-right-requires clip-left-requires
+    (λ c. search needs) returns-2)
