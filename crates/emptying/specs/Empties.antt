@@ -74,6 +74,10 @@ module _ (out : List ℕ) (s : Lent) (z : Ready (Call.reclaim out) s) where
     unfolding deviceOf
     other e = chosen .other (sym is ∙ e)
 
+    pub victim-room : v * s .head .pages + s .head .pages ≤ none
+    unfolding deviceOf
+    victim-room = block-room (deviceOf s) sound v inside
+
     pub reclaim-moves : (HasBlock (s .blockWords) (s .head .reserve)) × (HasBlock (s .blockWords) v)
     reclaim-moves = (omega (arith, z .sound .kept, z .shape .blocks), omega (arith, inside, device-blocks s, z .shape .blocks))
 
@@ -94,7 +98,7 @@ module _ (out : List ℕ) (s : Lent) (z : Ready (Call.reclaim out) s) where
       reclaim-lists = (
         ranks-rise (s .head .pages) (covered (inUse s) (s .head .pages) v) ranks r,
         omega (arith, few, count-sources (deviceOf s) sound v inside other ranks ranked),
-        block-room (deviceOf s) sound v inside,
+        victim-room,
       )
 
       module _ (out′ : List ℕ) (g : out′ ≡ over (livePages (s .head .pages) v (rises ranks)) out) where

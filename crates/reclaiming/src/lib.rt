@@ -19,14 +19,14 @@ ghost use Rattle.reclaiming.specs.Emptied.{emptied};
 
 // The page that page p goes to.
 fn page_after(p: u32, n: u32, v: u32, r: u32, ranks: &[u32]) -> u32
-    requires { ⌜ Movable n r (now ranks) ⌝ }
+    requires { ⌜ Movable n v r (now ranks) ⌝ }
     ensures { λ q. ⌜ q ≡ rankedPage n (now (ranks .entry)) v r p ⌝ }
 {
-    if p / n != v {
+    let o = std::num::wrapping_sub_u32(p, v * n);
+    if o >= n {
         return p;
     }
-    let o = (p % n) as usize;
-    r * n + ranks[o]
+    r * n + ranks[o as usize]
 }
 
 const NONE: u32 = 4294967295;
@@ -87,7 +87,7 @@ fn joins(a: Extent, b: Extent, n: u32) -> bool
 
 // Slot i with its first page moved: the others go along.
 fn slot_after(ext: &[u32], i: usize, n: u32, v: u32, r: u32, ranks: &[u32]) -> Extent
-    requires { ⌜ (3 * i + 2 < length (now ext)) × Movable n r (now ranks) ⌝ }
+    requires { ⌜ (3 * i + 2 < length (now ext)) × Movable n v r (now ranks) ⌝ }
     ensures { λ e. ⌜ e ≡ move (rankedPage n (now (ranks .entry)) v r) (slot (now (ext .entry)) i) ⌝ }
 {
     let at = 3 * i;
@@ -126,7 +126,8 @@ fn push_slot(ext: &mut [u32], w: usize, x: Extent, n: u32) -> usize
 
 // The map afterwards, each slot moved and joined from the left, and zeros behind them: how many extents it has.
 pub fn move_map(ext: &mut [u32], used: usize, n: u32, v: u32, r: u32, ranks: &[u32]) -> usize
-    requires { ⌜ (3 * used ≤ length (now ext)) × (1 ≤ n) × (r * n + n ≤ none) × Ranks n (covered (slotsFrom (now ext) 0 used) n v) (now ranks) × Ends (now ext) used ⌝ }
+    requires { ⌜ (3 * used ≤ length (now ext)) × (1 ≤ n) × (v * n + n ≤ none) × (r * n + n ≤ none) × Ends (now ext) used ⌝ }
+    requires { ⌜ Ranks n (covered (slotsFrom (now ext) 0 used) n v) (now ranks) ⌝ }
     ensures { λ w. ⌜ (w ≡ length (remapped n v r (slotsFrom (now (ext .entry)) 0 used)))
         × (now (ext .exit) ≡ padded (length (now (ext .entry))) (remapped n v r (slotsFrom (now (ext .entry)) 0 used))) ⌝ }
 {

@@ -39,7 +39,7 @@ slot-after-requires c κs =
     let s = start (c .before .before) in
     let a = s .args in
     let reached = covered (slotsFrom (a .ext .now) 0 (a .used)) (a .n) (a .v) in
-    (omega arith, ranks-movable (a .n) reached (a .ranks .now) (s .pre .3) (a .r) (omega arith) (omega arith))
+    (omega arith, ranks-movable (a .n) reached (a .ranks .now) (s .pre .1) (a .v) (a .r) (omega arith) (omega arith) (omega arith))
 
 push-slot-requires : tie.Need-push-slot-requires Inv-loop μ-loop
 push-slot-requires c κs =
@@ -48,7 +48,7 @@ push-slot-requires c κs =
     let s = start w in
     let a = s .args in
     let ends = packed-ends (to s) (a .n) (a .ext .now) (o .ext) (o .i) (o .w) (a .used) (c .before .slot-after .result) in
-    (omega arith, omega (arith, o .inv .2 .few), ends (o .inv .2) (s .pre .4) (omega arith) (c .before .slot-after .ensures))
+    (omega arith, omega (arith, o .inv .2 .few), ends (o .inv .2) (s .pre .0 .4) (omega arith) (c .before .slot-after .ensures))
 
 loop-again : tie.Need-loop-again Inv-loop μ-loop
 loop-again c =
@@ -75,7 +75,7 @@ returns c =
     let a = s .args in
     let filled = f .fill-with in
     let e : o .i ≡ a .used = omega arith in
-    let all = moved-map (a .ext .now) (a .used) (a .n) (a .ranks .now) (a .v) (a .r) (omega arith) (s .pre .3) in
+    let all = moved-map (a .ext .now) (a .used) (a .n) (a .ranks .now) (a .v) (a .r) (omega arith) (s .pre .1) in
     let after : ℕ → List Extent = λ k. norm (a .n) (map (move (to s)) (slotsFrom (a .ext .now) 0 k)) in (
       packed-length (to s) (a .n) (a .ext .now) (o .ext) (o .i) (o .w) (o .inv .2) ∙ ap (λ (k : ℕ). length (after k)) e ∙ ap length all,
       packed-end (to s) (a .n) (a .ext .now) (o .ext) (filled .last .0) (o .i) (o .w) (omega arith) (omega arith) (o .inv .2) (filled .ensures)
