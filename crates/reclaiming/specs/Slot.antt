@@ -95,8 +95,12 @@ pushed-joined n ws w x l t =
       few = omega arith;
     }
 
+-- extent x goes behind the first w slots without being joined
+abbrev pub Apart : ℕ → List ℕ → ℕ → Extent → Type 0
+Apart n ws w x = push n (slotsFrom ws 0 w) x ≡ slotsFrom ws 0 w ++ x ∷ []
+
 -- behind no slot, or behind one that it is not joinable with
-push-apart : (n : ℕ) (ws : List ℕ) (w : ℕ) (x : Extent) → joinsLast n ws w x ≡ false → push n (slotsFrom ws 0 w) x ≡ slotsFrom ws 0 w ++ x ∷ []
+pub push-apart : (n : ℕ) (ws : List ℕ) (w : ℕ) (x : Extent) → joinsLast n ws w x ≡ false → Apart n ws w x
 unfolding slotsFrom push
 push-apart n ws zero x t = refl
 push-apart n ws (suc j) x t =
@@ -109,15 +113,18 @@ push-apart n ws (suc j) x t =
     ∙ ap (λ (es : List Extent). slotsFrom ws 0 j ++ es) (join-apart n (slot ws j) x [] e′)
     ∙ sym (ap (λ (es : List Extent). es ++ x ∷ []) more ∙ append-assoc (slotsFrom ws 0 j) (slot ws j ∷ []) (x ∷ []))
 
-pub pushed-apart : (n : ℕ) (ws ws′ : List ℕ) (w : ℕ) (x : Extent) → 3 * w + 2 < length ws → joinsLast n ws w x ≡ false → ws′ ≡ putSlot ws w x
-    → Pushed n ws w x ws′ (w + 1)
+pub pushed-apart : (n : ℕ) (ws ws′ : List ℕ) (w : ℕ) (x : Extent) → 3 * w + 2 < length ws → Apart n ws w x → ws′ ≡ putSlot ws w x → Pushed n ws w x ws′ (w + 1)
 pushed-apart n ws ws′ w x l t e = subst (λ (zs : List ℕ). Pushed n ws w x zs (w + 1)) (sym e) record {
   done = slots-more (putSlot ws w x) 0 w w (omega arith)
       ∙ ap₂ (λ (es : List Extent) (y : Extent). es ++ y ∷ []) (slots-same (putSlot ws w x) ws 0 w (λ k p q. put-slot-else ws w x k (λ a b. omega arith))) (put-slot-here ws w x l)
-      ∙ sym (push-apart n ws w x t);
+      ∙ sym t;
   rest = λ k p. put-slot-else ws w x k (λ a b. omega arith);
   few = omega arith;
 }
+
+-- slot i stands there already
+pub pushed-there : (n : ℕ) (ws : List ℕ) (w i : ℕ) → i ≡ w → Apart n ws w (slot ws i) → Pushed n ws w (slot ws i) ws (w + 1)
+pushed-there n ws w i e t = record { done = slots-more ws 0 w i (omega arith) ∙ sym t; rest = λ k p. refl; few = omega arith }
 
 -- after i slots, each moved by g: w stand, joined, and the others are as they were
 pub record Packed (g : ℕ → ℕ) (n : ℕ) (ws : List ℕ) (i : ℕ) (ws′ : List ℕ) (w : ℕ) : Type 0 where
@@ -132,17 +139,18 @@ packed-start g n ws = record { done = refl; rest = λ k h. refl; few = omega ari
 pub packed-slot : (g : ℕ → ℕ) (n : ℕ) (ws ws′ : List ℕ) (i w : ℕ) → Packed g n ws i ws′ w → slot ws′ i ≡ slot ws i
 packed-slot g n ws ws′ i w h = slot-same ws′ ws i (λ k a b. h .rest k a)
 
--- What is pushed for slot i ends at `none` or before it.
-pub packed-ends : (g : ℕ → ℕ) (n : ℕ) (ws ws′ : List ℕ) (i w u : ℕ) (x : Extent) → Packed g n ws i ws′ w → Ends ws u → i < u → x ≡ move g (slot ws′ i) → end x ≤ none
-packed-ends g n ws ws′ i w u x h f l e = omega (arith, f i l, ap end e, ap end (packed-slot g n ws ws′ i w h))
+pub packed-ends : (g : ℕ → ℕ) (n : ℕ) (ws ws′ : List ℕ) (i w u : ℕ) → Packed g n ws i ws′ w → Ends ws u → i < u → end (slot ws′ i) ≤ none
+packed-ends g n ws ws′ i w u h f l = omega (arith, f i l, ap end (packed-slot g n ws ws′ i w h))
 
-pub packed-step : (g : ℕ → ℕ) (n : ℕ) (ws ws′ ws″ : List ℕ) (i w k : ℕ) (x : Extent) → Packed g n ws i ws′ w → x ≡ move g (slot ws′ i)
-    → Pushed n ws′ w x ws″ k → Packed g n ws (i + 1) ws″ k
-packed-step g n ws ws′ ws″ i w k x h e p = record {
-  done = p .done ∙ ap₂ (push n) (h .done) (e ∙ ap (move g) (packed-slot g n ws ws′ i w h))
-      ∙ sym (ap (λ (es : List Extent). norm n (map (move g) es)) (slots-more ws 0 i i (omega arith))
-      ∙ ap (norm n) (map-append (move g) (slotsFrom ws 0 i) (slot ws i ∷ []))
-      ∙ norm-push n (map (move g) (slotsFrom ws 0 i)) (move g (slot ws i)));
+-- one slot more
+pub moved-more : (g : ℕ → ℕ) (ws : List ℕ) (i : ℕ) → map (move g) (slotsFrom ws 0 (i + 1)) ≡ map (move g) (slotsFrom ws 0 i) ++ move g (slot ws i) ∷ []
+moved-more g ws i = ap (map (move g)) (slots-more ws 0 i i (omega arith)) ∙ map-append (move g) (slotsFrom ws 0 i) (slot ws i ∷ [])
+
+pub packed-step : (g : ℕ → ℕ) (n : ℕ) (ws ws′ ws″ : List ℕ) (i w k : ℕ) → Packed g n ws i ws′ w → Pushed n ws′ w (move g (slot ws′ i)) ws″ k
+    → Packed g n ws (i + 1) ws″ k
+packed-step g n ws ws′ ws″ i w k h p = record {
+  done = p .done ∙ ap₂ (push n) (h .done) (ap (move g) (packed-slot g n ws ws′ i w h))
+      ∙ sym (ap (norm n) (moved-more g ws i) ∙ norm-push n (map (move g) (slotsFrom ws 0 i)) (move g (slot ws i)));
   rest = λ j a. p .rest j (omega (arith, h .few)) ∙ h .rest j (omega arith);
   few = omega (arith, p .few, h .few);
 }

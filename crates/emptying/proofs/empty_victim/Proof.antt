@@ -1,18 +1,13 @@
 use borrow.Author.Needs.{needs}
 use native.Mathlib.Omega.{arith}
-use Prim.Native.Nat.{_+_, _*_, _≤_}
 use mathlib.Core.Path.{refl}
-use Rattle.rules.specs.Extents.{none}
 use Rattle.rules.specs.Lent.{Lent, lent}
-use Rattle.emptying.specs.Empties.{reclaim-walkable, victim-room, reclaim-moves, reclaim-lists, reclaim-copied, reclaim-few, reclaim-answer}
+use Rattle.emptying.specs.Empties.{reclaim-walkable, reclaim-moves, reclaim-lists, reclaim-copied, reclaim-map, reclaim-few, reclaim-answer}
 use Rattle.emptying.proofs.empty_victim.Statement.{statement}
 use Rattle.emptying.proofs.empty_victim.Tie as tie
 
 abbrev state : tie.Start → Lent
 state s = lent (s .args .h) (s .args .ext .now) (s .args .blk .now) (s .args .spare .now)
-
-room : (s : tie.Start) → s .args .v * s .args .h .pages + s .args .h .pages ≤ none
-room s = victim-room (s .args .out .now) (state s) (s .pre .0) (s .args .v) (s .pre .1)
 
 -- what was lent, from where the ranks are known
 abbrev start : tie.After-ranks-of → tie.Start
@@ -25,8 +20,8 @@ ranked l = l .before .before .before .before .before .before .before .before
 ranks-of-requires : tie.Need-ranks-of-requires
 ranks-of-requires c κs =
     let s = c .before .before .before .before .before .before in
-    let w = reclaim-walkable (s .args .out .now) (state s) (s .pre .0) in
-    ((w .slots, w .some, w .few, room s), w .inside)
+    let w = reclaim-walkable (s .args .out .now) (state s) (s .pre .0) (s .args .v) (s .pre .1) in
+    ((w .slots, w .some, w .few, w .room), w .inside)
 
 list-sources-requires : tie.Need-list-sources-requires
 list-sources-requires c κs =
@@ -50,8 +45,7 @@ move-map-requires : tie.Need-move-map-requires
 move-map-requires c κs =
     let r = ranked (c .before .before .before .before .before .before .before .before) in
     let s = start r in
-    let w = reclaim-walkable (s .args .out .now) (state s) (s .pre .0) in
-    ((w .slots, w .some, room s, w .room, w .ends), r .ranks-of .ensures)
+    reclaim-map (s .args .out .now) (state s) (s .pre .0) (s .args .v) (s .pre .1) (r .ranks-of .result) (r .ranks-of .ensures)
 
 cast-after : tie.Need-cast-after
 cast-after c =
