@@ -48,6 +48,10 @@ module _ (out : List ℕ) (s : Lent) (z : Ready (Call.reclaim out) s) where
   same : extents (deviceOf s) ≡ inUse s
   same = extents-in-use s (z .shape) (z .sound)
 
+  block-fits : (b : ℕ) → b < blocks (deviceOf s) → b * s .head .pages + s .head .pages ≤ none
+  unfolding deviceOf
+  block-fits b h = block-room (deviceOf s) sound b h
+
   -- rules 1 and 2, slot by slot
   ranked-slots : Ranked (s .head .pages) (s .head .logical) (s .extentWords) (s .head .used)
   ranked-slots = rows-ranked (s .head .pages) (s .head .logical) (s .extentWords) (s .head .used) (z .sound .rows)
@@ -66,10 +70,6 @@ module _ (out : List ℕ) (s : Lent) (z : Ready (Call.reclaim out) s) where
     other : v ≡ s .head .reserve → ⊥
     unfolding deviceOf
     other e = chosen .other (sym is ∙ e)
-
-    block-fits : (b : ℕ) → b < blocks (deviceOf s) → b * s .head .pages + s .head .pages ≤ none
-    unfolding deviceOf
-    block-fits b h = block-room (deviceOf s) sound b h
 
     pub reclaim-walkable : Walkable (s .head) (s .extentWords) v
     reclaim-walkable = record {
@@ -108,6 +108,7 @@ module _ (out : List ℕ) (s : Lent) (z : Ready (Call.reclaim out) s) where
           let w = reclaim-walkable in
           record {
             slots = w .slots;
+            zeros = z .sound .zeros;
             some = w .some;
             from = w .room;
             room = block-fits (s .head .reserve) (omega (arith, z .sound .kept, device-blocks s));

@@ -7,7 +7,7 @@ use mathlib.Core.Logic.{by-cases}
 use native.Mathlib.Omega.{arith}
 use native.Mathlib.Decide.{ℕ-discrete}
 use native.Mathlib.Nat.{mod-lt}
-use lib.ListN.{length}
+use lib.ListN.{length, getD}
 use Rattle.rules.specs.Extents.{none, extent, joinable, slot, slotsFrom}
 use Rattle.rules.specs.declared.Extent.{Extent}
 use Rattle.laws.specs.Norm.{norm, move}
@@ -16,14 +16,17 @@ use Rattle.choosing.specs.Ranks.{Ranks, Movable, ranks-movable}
 use Rattle.reclaiming.specs.Remapped.{rankedPage, place-block, place-else, other-block, push, push-behind}
 use Rattle.reclaiming.specs.Slot.{Ends, Apart, Packed, packed-slot, moved-more}
 
--- the slots of block v among u may go to block r, in which none lies
+-- the slots of block v among u may go to block r
 pub record Moves (n v r : ℕ) (ws : List ℕ) (u : ℕ) (ranks : List ℕ) : Type 0 where
   pub slots : 3 * u ≤ length ws
+  pub zeros : (k : ℕ) → 3 * u ≤ k → k < length ws → getD ws k 0 ≡ 0
   pub some : 1 ≤ n
   pub from : v * n + n ≤ none
   pub room : r * n + n ≤ none
   pub ends : Ends ws u
+  -- no two neighbours are joinable
   pub apart : (i j : ℕ) → j ≡ suc i → j < u → joinable n (slot ws i) (slot ws j) ≡ false
+  -- none lies in block r
   pub free : (i : ℕ) → i < u → slot ws i .physical / n ≡ r → ⊥
   pub ranked : Ranks n (covered (slotsFrom ws 0 u) n v) ranks
 

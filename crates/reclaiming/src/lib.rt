@@ -98,7 +98,8 @@ fn push_slot(ext: &mut [u32], w: usize, x: Extent, n: u32) -> usize
     w + 1
 }
 
-// Slot i goes behind the first w slots. In block v it is moved, and joined where it can be; elsewhere it stays as it is, and is stored only where it comes down.
+// Slot i goes behind the first w slots. In block v it is moved, and joined where it can be. Elsewhere it stays as it is and joins nothing: no two neighbours did,
+// and what was moved lies in a block of its own. It is stored only where it comes down.
 fn take_slot(ext: &mut [u32], w: usize, i: usize, n: u32, v: u32, r: u32, ranks: &[u32]) -> usize
     requires { ⌜ (3 * i + 2 < length (now ext)) × (w ≤ i) × (end (slot (now ext) i) ≤ none) ⌝ }
     requires { ⌜ Movable n v r (now ranks) × Apart n (now ext) w (slot (now ext) i) ⌝ }
@@ -122,7 +123,7 @@ fn take_slot(ext: &mut [u32], w: usize, i: usize, n: u32, v: u32, r: u32, ranks:
     w + 1
 }
 
-// The map afterwards, each slot taken from the left, and zeros behind them: how many extents it has.
+// The map afterwards, each slot taken from the left, and zeros where slots stand no longer: how many extents it has.
 pub fn move_map(ext: &mut [u32], used: usize, n: u32, v: u32, r: u32, ranks: &[u32]) -> usize
     requires { ⌜ Moves n v r (now ext) used (now ranks) ⌝ }
     ensures { λ w. ⌜ (w ≡ length (remapped n v r (slotsFrom (now (ext .entry)) 0 used)))
@@ -134,6 +135,6 @@ pub fn move_map(ext: &mut [u32], used: usize, n: u32, v: u32, r: u32, ranks: &[u
         w = take_slot(ext, w, i, n, v, r, ranks);
         i += 1;
     }
-    words::fill_with(&mut ext[3 * w..], 0);
+    words::fill_with(&mut ext[3 * w..3 * used], 0);
     w
 }

@@ -1,10 +1,6 @@
 use Prim.Native.Nat.{ℕ, _-_, _≤_}
-use mathlib.Core.Path.{_≡_, refl, ap, _∙_}
-use mathlib.Core.List.{List, map}
+use mathlib.Core.Path.{_≡_, refl, ap, _∙_, subst}
 use lib.ListN.{length}
-use Rattle.rules.specs.Extents.{slotsFrom}
-use Rattle.rules.specs.declared.Extent.{Extent}
-use Rattle.laws.specs.Norm.{norm, move}
 use Rattle.reclaiming.specs.Remapped.{rankedPage}
 use Rattle.map.specs.Padded.{padded}
 use Rattle.reclaiming.specs.Slot.{Packed, packed-start, packed-ends, packed-step, packed-length, packed-end, moved-map}
@@ -72,11 +68,10 @@ returns c =
     let a = s .args in
     let filled = f .fill-with in
     let e : o .i ≡ a .used = omega arith in
-    let all = moved-map (a .ext .now) (a .used) (a .n) (a .ranks .now) (a .v) (a .r) (s .pre .some) (s .pre .ranked) in
-    let after : ℕ → List Extent = λ k. norm (a .n) (map (move (to s)) (slotsFrom (a .ext .now) 0 k)) in (
-      packed-length (to s) (a .n) (a .ext .now) (o .ext) (o .i) (o .w) (o .inv .2) ∙ ap (λ (k : ℕ). length (after k)) e ∙ ap length all,
-      packed-end (to s) (a .n) (a .ext .now) (o .ext) (filled .last .0) (o .i) (o .w) (omega arith) (omega arith) (o .inv .2) (filled .ensures)
-          ∙ ap (λ (k : ℕ). padded (length (a .ext .now)) (after k)) e
+    let packed = subst (λ (k : ℕ). Packed (to s) (a .n) (a .ext .now) k (o .ext) (o .w)) e (o .inv .2) in
+    let all = moved-map (a .ext .now) (a .used) (a .n) (a .ranks .now) (a .v) (a .r) (s .pre .some) (s .pre .ranked) in (
+      packed-length (to s) (a .n) (a .ext .now) (o .ext) (a .used) (o .w) packed ∙ ap length all,
+      packed-end (to s) (a .n) (a .ext .now) (o .ext) (filled .last .0) (a .used) (o .w) (s .pre .slots) (s .pre .zeros) (omega arith) packed (filled .ensures)
           ∙ ap (padded (length (a .ext .now))) all,
     )
 
@@ -84,5 +79,5 @@ pub move-map-spec : {M : Type 1} → statement M
 move-map-spec =
     tie.close
     (tie.spec Inv-loop μ-loop loop-holds take-slot-requires (λ c. search needs) (λ c. search needs) loop-again
-    (λ c. search needs) (λ c. search needs) (λ c. search needs) (λ c. search needs) (λ c. search needs) (λ c κs. search needs)
-    (λ c. search needs) returns)
+    (λ c. search needs) (λ c. search needs) (λ c. search needs) (λ c. search needs) (λ c. search needs) (λ c. search needs)
+    (λ c κs. search needs) (λ c. search needs) returns)
