@@ -1,5 +1,6 @@
 pub mod Stale
 pub mod Covered
+pub mod Away
 pub mod Ranks
 pub mod Part
 pub mod Sources

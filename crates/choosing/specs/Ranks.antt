@@ -29,9 +29,10 @@ pub record Ranks (n : ℕ) (live : ℕ → Bool) (ranks : List ℕ) : Type 0 whe
   pub long : n < length ranks
   pub rank : (o : ℕ) → o ≤ n → getD ranks o 0 ≡ count o live
 
--- what it takes to put the pages of a block into block r
-pub record Movable (n r : ℕ) (ranks : List ℕ) : Type 0 where
+-- what it takes to put the pages of block v into block r
+pub record Movable (n v r : ℕ) (ranks : List ℕ) : Type 0 where
   pub some : 1 ≤ n
+  pub from : v * n + n ≤ none
   pub room : r * n + n ≤ none
   pub long : n < length ranks
   pub low : (o : ℕ) → o < n → getD ranks o 0 ≤ o
@@ -106,11 +107,11 @@ marks-more ws u n v ms ms′ s l m e o h =
     ∙ marked-at (slot ws u) n v ms s l o h (covered (slotsFrom ws 0 u) n v o) (m o h)
     ∙ ap one (sym (covered-more (slotsFrom ws 0 u) (slot ws u) n v o) ∙ ap (λ (es : List Extent). covered es n v o) (sym (slots-more ws 0 u u (omega arith))))
 
--- the part of the marks that is an extent's comes back filled with ones
-pub marked-put : (e : Extent) (n v : ℕ) (ms ys : List ℕ) → e .physical / n ≡ v → e .physical % n + e .count ≤ n → n ≤ length ms
-    → ys ≡ ones (length (midOf (e .physical % n) (e .physical % n + e .count - e .physical % n) ms))
-    → putMid (e .physical % n) (e .physical % n + e .count - e .physical % n) ms ys ≡ markedIn e n v ms
-marked-put e n v ms ys here s l eq = part-filled (e .physical % n) (e .count) ms ys 1 (omega arith) eq ∙ sym (marked-here e n v ms here)
+-- the part of the marks that is an extent's, from its offset o on, comes back filled with ones
+pub marked-put : (e : Extent) (n v o : ℕ) (ms ys : List ℕ) → e .physical / n ≡ v → e .physical % n ≡ o → o + e .count ≤ n → n ≤ length ms
+    → ys ≡ ones (length (midOf o (o + e .count - o) ms)) → putMid o (o + e .count - o) ms ys ≡ markedIn e n v ms
+marked-put e n v o ms ys here at s l eq =
+    part-filled o (e .count) ms ys 1 (omega arith) eq ∙ ap (λ (x : ℕ). sets ms x (ones (e .count))) (sym at) ∙ sym (marked-here e n v ms here)
 
 -- ---- sums of the marks before each offset
 
@@ -168,9 +169,9 @@ module _ (n : ℕ) (live : ℕ → Bool) (ranks : List ℕ) (r : Ranks n live ra
       (λ t. rise-true ranks o (omega (arith, rank-next o h, ap one t)) ∙ sym t)
       (λ t. rise-false ranks o (omega (arith, rank-next o h, ap one t)) ∙ sym t)
 
-  -- a page of the victim has its place in block r
-  pub ranks-movable : (r : ℕ) → 1 ≤ n → r * n + n ≤ none → Movable n r ranks
-  ranks-movable b some room = record { some = some; room = room; long = r .long; low = λ o h. rank-le o (omega arith) }
+  -- a page of block v has its place in block b
+  pub ranks-movable : (v b : ℕ) → 1 ≤ n → v * n + n ≤ none → b * n + n ≤ none → Movable n v b ranks
+  ranks-movable v b some from room = record { some = some; from = from; room = room; long = r .long; low = λ o h. rank-le o (omega arith) }
 
   pub ranks-rise : Ranks n (rises ranks) ranks
   ranks-rise = record {

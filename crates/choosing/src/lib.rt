@@ -39,24 +39,25 @@ pub fn victim_of(blk: &[u32], blocks: u32) -> u32
     v
 }
 
-// Ones at the offsets of slot i, where it lies in block v.
+// Ones at the offsets of slot i, where it lies in block v. A page before the block is far behind it once the difference wraps, so one test tells.
 fn mark_slot(marks: &mut [u32], ext: &[u32], i: usize, n: u32, v: u32)
-    requires { ⌜ (3 * i + 2 < length (now ext)) × (1 ≤ n) × (n ≤ length (now marks)) × (slot (now ext) i .physical % n + slot (now ext) i .count ≤ n) ⌝ }
+    requires { ⌜ (3 * i + 2 < length (now ext)) × (1 ≤ n) × (n ≤ length (now marks)) × (v * n + n ≤ none) ⌝ }
+    requires { ⌜ slot (now ext) i .physical % n + slot (now ext) i .count ≤ n ⌝ }
     ensures { λ _. ⌜ now (marks .exit) ≡ markedIn (slot (now (ext .entry)) i) n v (now (marks .entry)) ⌝ }
 {
     let at = 3 * i;
-    let p = ext[at + 1];
-    if p / n != v {
+    let o = std::num::wrapping_sub_u32(ext[at + 1], v * n);
+    if o >= n {
         return;
     }
-    let o = (p % n) as usize;
+    let from = o as usize;
     let c = ext[at + 2] as usize;
-    words::fill_with(&mut marks[o..o + c], 1);
+    words::fill_with(&mut marks[from..from + c], 1);
 }
 
 // Ones at the offsets of the mapped pages of block v.
 fn mark_slots(marks: &mut [u32], ext: &[u32], used: usize, n: u32, v: u32)
-    requires { ⌜ (3 * used ≤ length (now ext)) × (1 ≤ n) × (n ≤ length (now marks)) ⌝ }
+    requires { ⌜ (3 * used ≤ length (now ext)) × (1 ≤ n) × (n ≤ length (now marks)) × (v * n + n ≤ none) ⌝ }
     requires { ⌜ ((i : ℕ) → i < used → slot (now ext) i .physical % n + slot (now ext) i .count ≤ n) ⌝ }
     requires { ⌜ ((o : ℕ) → o < n → getD (now marks) o 0 ≡ 0) ⌝ }
     ensures { λ _. ⌜ Marks (now (ext .entry)) used n v (now (marks .exit)) ⌝ }
@@ -86,7 +87,7 @@ fn add_up(marks: &mut [u32], n: usize)
 
 // The rank of each offset of block v, and at n the number of its mapped pages.
 pub fn ranks_of(ext: &[u32], used: usize, n: u32, v: u32) -> [u32; 257]
-    requires { ⌜ (3 * used ≤ length (now ext)) × (1 ≤ n) × (n ≤ 256) ⌝ }
+    requires { ⌜ (3 * used ≤ length (now ext)) × (1 ≤ n) × (n ≤ 256) × (v * n + n ≤ none) ⌝ }
     requires { ⌜ ((i : ℕ) → i < used → slot (now ext) i .physical % n + slot (now ext) i .count ≤ n) ⌝ }
     ensures { λ ranks. ⌜ Ranks n (covered (slotsFrom (now (ext .entry)) 0 used) n v) ranks ⌝ }
 {

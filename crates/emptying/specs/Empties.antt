@@ -1,5 +1,5 @@
 -- What a reclaim that nothing refuses asks of the words, lists and leaves.
-use Prim.Native.Nat.{ℕ, _+_, _*_, _%_, _≤_, _<_}
+use Prim.Native.Nat.{ℕ, _+_, _*_, _/_, _%_, _≤_, _<_}
 use mathlib.Core.Path.{_≡_, refl, sym, ap, _∙_}
 use mathlib.Core.List.{List, [], _∷_}
 use native.Mathlib.Omega.{arith}
@@ -7,15 +7,16 @@ use lib.ListN.{length, getD, take}
 use Rattle.rules.specs.Counting.{count}
 use Rattle.rules.specs.Extents.{none, slot}
 use Rattle.rules.specs.Blocks.{records, HasBlock}
-use Rattle.rules.specs.Lent.{Lent, lent, inUse}
+use Rattle.rules.specs.Lent.{Lent, lent, inUse, slotOf, fillOf}
 use Rattle.rules.specs.Device.{blocks, valid, extents, deviceOf, headOf, wordsOf}
 use Rattle.rules.specs.Reclaim.{victim, sources, reclaimedAt, reclaimed}
 use Rattle.rules.specs.Answers.{said, outcome}
 use Rattle.rules.specs.Calls.{Call, counts, leaves, lists, over, call}
 use Rattle.rules.specs.declared.Head.{Head}
-use Rattle.laws.specs.Cells.{swept, block-le}
+use Rattle.laws.specs.Cells.{swept}
 use Rattle.laws.specs.Device.{SoundDevice}
-use Rattle.laws.specs.Shapes.{lines-pages, pages-high, pages-fit}
+use Rattle.laws.specs.Ranked.{Ranked, rows-ranked}
+use Rattle.laws.specs.Shapes.{lines-pages, pages-high}
 use Rattle.laws.specs.Slots.{slots-length}
 use Rattle.laws.specs.States.{device-blocks, device-lines, device-words, extents-in-use, state-storable}
 use Rattle.laws.specs.Reclaimed.{re-blocks, re-lines}
@@ -25,21 +26,20 @@ use Rattle.choosing.specs.Covered.{covered}
 use Rattle.choosing.specs.Ranks.{Ranks, rises, ranks-rise}
 use Rattle.reclaiming.specs.Remapped.{remapped}
 use Rattle.map.specs.Padded.{padded, padded-words}
-use Rattle.reclaiming.specs.Slot.{Ends}
+use Rattle.reclaiming.specs.Moves.{Moves}
 use Rattle.choosing.specs.Sources.{livePages}
 use Rattle.reclaiming.specs.Labels.{Copied}
 use Rattle.reclaiming.specs.Emptied.{emptied}
-use Rattle.reclaiming.specs.Reclaims.{block-room, rows-inside, rows-ends, rises-sources, rank-sources, count-sources, remapped-extents, sources-copied, moved-labels, emptied-records}
+use Rattle.reclaiming.specs.Reclaims.{block-room, rises-sources, rank-sources, count-sources, remapped-extents, sources-copied, moved-labels, emptied-records}
 use Rattle.refusals.specs.Accepts.{Ready, accepts}
 
--- what the walks over the slots ask of them and of the reserve that the victim goes to
-pub record Walkable (h : Head) (ext : List ℕ) : Type 0 where
+-- what the walk over the slots that ranks the pages of block v asks of them
+pub record Walkable (h : Head) (ext : List ℕ) (v : ℕ) : Type 0 where
   pub slots : 3 * h .used ≤ length ext
   pub some : 1 ≤ h .pages
   pub few : h .pages ≤ 256
-  pub room : h .reserve * h .pages + h .pages ≤ none
+  pub room : v * h .pages + h .pages ≤ none
   pub inside : (i : ℕ) → i < h .used → slot ext i .physical % h .pages + slot ext i .count ≤ h .pages
-  pub ends : Ends ext (h .used)
 
 module _ (out : List ℕ) (s : Lent) (z : Ready (Call.reclaim out) s) where
   sound : SoundDevice (deviceOf s)
@@ -48,20 +48,17 @@ module _ (out : List ℕ) (s : Lent) (z : Ready (Call.reclaim out) s) where
   same : extents (deviceOf s) ≡ inUse s
   same = extents-in-use s (z .shape) (z .sound)
 
-  pub reclaim-walkable : Walkable (s .head) (s .extentWords)
-  reclaim-walkable =
-      let n = s .head .pages in
-      let top = s .head .logical in
-      let sizes = z .shape .sizes in
-      let few = z .sound .few in
-      record {
-        slots = omega (arith, z .shape .extents);
-        some = sizes .n-low;
-        few = sizes .n-high;
-        room = omega (arith, block-le n (s .head .reserve) (s .head .blocks) (z .sound .kept), pages-fit sizes);
-        inside = rows-inside n top (s .extentWords) (s .head .used) (z .sound .rows);
-        ends = rows-ends n top (s .extentWords) (s .head .used) (omega (arith, lines-pages sizes, pages-high sizes)) (z .sound .rows);
-      }
+  block-fits : (b : ℕ) → b < blocks (deviceOf s) → b * s .head .pages + s .head .pages ≤ none
+  unfolding deviceOf
+  block-fits b h = block-room (deviceOf s) sound b h
+
+  -- rules 1 and 2, slot by slot
+  ranked-slots : Ranked (s .head .pages) (s .head .logical) (s .extentWords) (s .head .used)
+  ranked-slots = rows-ranked (s .head .pages) (s .head .logical) (s .extentWords) (s .head .used) (z .sound .rows)
+
+  -- no slot lies in the reserve
+  reserve-free : (i : ℕ) → i < s .head .used → slotOf s i .physical / s .head .pages ≡ s .head .reserve → ⊥
+  reserve-free i t e = omega (arith, z .sound .below i t, ap (fillOf s) e, z .sound .empty, ranked-slots .some i t)
 
   module _ (v : ℕ) (is : v ≡ victim (deviceOf s)) where
     chosen : Chosen (deviceOf s) (victim (deviceOf s))
@@ -73,6 +70,15 @@ module _ (out : List ℕ) (s : Lent) (z : Ready (Call.reclaim out) s) where
     other : v ≡ s .head .reserve → ⊥
     unfolding deviceOf
     other e = chosen .other (sym is ∙ e)
+
+    pub reclaim-walkable : Walkable (s .head) (s .extentWords) v
+    reclaim-walkable = record {
+      slots = omega (arith, z .shape .extents, z .sound .few);
+      some = z .shape .sizes .n-low;
+      few = z .shape .sizes .n-high;
+      room = block-fits v inside;
+      inside = ranked-slots .inside;
+    }
 
     pub reclaim-moves : (HasBlock (s .blockWords) (s .head .reserve)) × (HasBlock (s .blockWords) v)
     reclaim-moves = (omega (arith, z .sound .kept, z .shape .blocks), omega (arith, inside, device-blocks s, z .shape .blocks))
@@ -94,8 +100,23 @@ module _ (out : List ℕ) (s : Lent) (z : Ready (Call.reclaim out) s) where
       reclaim-lists = (
         ranks-rise (s .head .pages) (covered (inUse s) (s .head .pages) v) ranks r,
         omega (arith, few, count-sources (deviceOf s) sound v inside other ranks ranked),
-        block-room (deviceOf s) sound v inside,
+        block-fits v inside,
       )
+
+      pub reclaim-map : Moves (s .head .pages) v (s .head .reserve) (s .extentWords) (s .head .used) ranks
+      reclaim-map =
+          let w = reclaim-walkable in
+          record {
+            slots = w .slots;
+            zeros = z .sound .zeros;
+            some = w .some;
+            from = w .room;
+            room = block-fits (s .head .reserve) (omega (arith, z .sound .kept, device-blocks s));
+            ends = λ i t. omega (arith, ranked-slots .high i t, lines-pages (z .shape .sizes), pages-high (z .shape .sizes));
+            apart = ranked-slots .apart;
+            free = reserve-free;
+            ranked = r;
+          }
 
       module _ (out′ : List ℕ) (g : out′ ≡ over (livePages (s .head .pages) v (rises ranks)) out) where
         listed : out′ ≡ over (sources v (deviceOf s)) out

@@ -10,7 +10,7 @@ use native.Mathlib.Nat.{mod-lt}
 use lib.ListN.{length, getD, take, drop, List·getD-append}
 use lib.Seq.{ext-getD, take-append-seam}
 use Rattle.rules.specs.Counting.{count, tabulate}
-use Rattle.rules.specs.Extents.{none, extent, end, lookup, slot, slotsFrom}
+use Rattle.rules.specs.Extents.{none, extent, end, lookup}
 use Rattle.rules.specs.Blocks.{stride, fillWord, validWord, records}
 use Rattle.rules.specs.declared.BlockRecord.{BlockRecord}
 use Rattle.rules.specs.Calls.{over}
@@ -28,7 +28,6 @@ use Rattle.laws.specs.Device.{SoundDevice, page-lt, none-block}
 use Rattle.laws.specs.Live.{stands, among-at}
 use Rattle.laws.specs.Reclaimed.{re-blocks, re-fill-victim, re-fill-reserve, re-fill, length-sources, few-sources, source, source-page, nth}
 use Rattle.laws.specs.Valid.{re-valid-victim, re-valid-reserve, re-valid}
-use Rattle.laws.specs.Ranked.{rows-ranked}
 use Rattle.laws.specs.Records.{records-length, records-fill, records-valid, words-records}
 use Rattle.laws.specs.States.{table-lines}
 use Rattle.laws.specs.Encoded.{reclaim-extents}
@@ -36,7 +35,6 @@ use Rattle.choosing.specs.Covered.{hasPage, covered, holds-true, true-holds}
 use Rattle.choosing.specs.Ranks.{Ranks, rises, rises-live}
 use Rattle.reclaiming.specs.Remapped.{remapped}
 use Rattle.choosing.specs.Sources.{livePages, pages-same, length-below, length-over}
-use Rattle.reclaiming.specs.Slot.{Ends}
 use Rattle.reclaiming.specs.Labels.{Copied}
 use Rattle.reclaiming.specs.Emptied.{emptied, emptied-length, victim-block, reserve-block, rest-block}
 
@@ -77,13 +75,6 @@ tabulate-same : (fs : List ℕ) → tabulate (length fs) (λ i. getD fs i 0) ≡
 tabulate-same fs =
     ext-getD 0 (tabulate (length fs) (λ i. getD fs i 0)) fs (length-tabulate (length fs) (λ i. getD fs i 0))
     (λ i h. getD-tabulate (length fs) (λ j. getD fs j 0) i 0 (omega (arith, length-tabulate (length fs) (λ j. getD fs j 0))))
-
--- rules 1 and 2 give what the two passes over the slots require
-pub rows-ends : (n hi : ℕ) (ws : List ℕ) (u : ℕ) → hi ≤ none → Rows n 0 none hi (slotsFrom ws 0 u) → Ends ws u
-rows-ends n hi ws u h r i t = omega (arith, rows-ranked n hi ws u r .high i t)
-
-pub rows-inside : (n hi : ℕ) (ws : List ℕ) (u : ℕ) → Rows n 0 none hi (slotsFrom ws 0 u) → (i : ℕ) → i < u → slot ws i .physical % n + slot ws i .count ≤ n
-rows-inside n hi ws u r i t = rows-ranked n hi ws u r .inside i t
 
 module _ (d : Device) (s : SoundDevice d) where
   pub block-room : (b : ℕ) → b < blocks d → b * d .pages + d .pages ≤ none

@@ -2,14 +2,15 @@
 use Prim.Native.Nat.{ℕ, _+_, _*_, _/_, _%_, _<_}
 use mathlib.Core.Bool.{Bool, true, false, cond}
 use mathlib.Core.Path.{_≡_, refl, sym, ap, _∙_}
-use mathlib.Core.List.{List, [], _∷_, _++_, map}
+use mathlib.Core.List.{List, [], _∷_, _++_, map, append-assoc}
 use mathlib.Core.Logic.{by-cases}
 use native.Mathlib.Omega.{arith}
 use native.Mathlib.Decide.{ℕ-discrete}
 use native.Mathlib.Nat.{mod-lt}
 use borrow.Author.Tests.{eq-eqb, ne-eqb}
+use lib.Arith.{digits-div}
 use lib.Dec.{eqb}
-use lib.ListN.{getD}
+use lib.ListN.{length, getD}
 use Rattle.rules.specs.Counting.{count}
 use Rattle.rules.specs.Extents.{extent, joinable, join}
 use Rattle.rules.specs.declared.Extent.{Extent}
@@ -38,6 +39,10 @@ module _ (n : ℕ) (ranks : List ℕ) (v r p : ℕ) where
   pub place-else : (p / n ≡ v → ⊥) → rankedPage n ranks v r p ≡ p
   unfolding rankedPage
   place-else e = rw (ne-eqb (p / n) v e)
+
+  -- what is moved lies in block r
+  pub place-block : p / n ≡ v → getD ranks (p % n) 0 < n → rankedPage n ranks v r p / n ≡ r
+  place-block e h = ap (λ (q : ℕ). q / n) (place-here e) ∙ digits-div r h
 
   pub place-moves : (live : ℕ → Bool) → 0 < n → Ranks n live ranks → rankedPage n ranks v r p ≡ movesTo n live v r p
   place-moves live z h =
@@ -121,3 +126,27 @@ unfolding push
 push-last n [] a x = refl
 push-last n (b ∷ []) a x = refl
 push-last n (b ∷ c ∷ es) a x = ap (λ (ys : List Extent). b ∷ ys) (push-last n (c ∷ es) a x)
+
+-- ---- behind others, the last of which it is not joinable with
+
+join-more : (n : ℕ) (a : Extent) (es : List Extent) (x : Extent) → 0 < length es → join n a (es ++ x ∷ []) ≡ join n a es ++ x ∷ []
+unfolding join
+join-more n a [] x h = absurd (omega arith)
+join-more n a (b ∷ es) x h = cases (joinable n a b) (λ s. rw s) (λ s. rw s)
+
+join-some : (n : ℕ) (a : Extent) (es : List Extent) → 0 < length (join n a es)
+unfolding join
+join-some n a [] = omega arith
+join-some n a (b ∷ es) = cases (joinable n a b) (λ s. rw s (omega arith)) (λ s. rw s (omega arith))
+
+norm-apart : (n : ℕ) (es : List Extent) (a x : Extent) → joinable n a x ≡ false → norm n (es ++ a ∷ x ∷ []) ≡ norm n (es ++ a ∷ []) ++ x ∷ []
+unfolding norm join
+norm-apart n [] a x t = join-apart n a x [] t
+norm-apart n (b ∷ es) a x t = ap (join n b) (norm-apart n es a x t) ∙ join-more n b (norm n (es ++ a ∷ [])) x (norm-some es)
+  where
+    norm-some : (es : List Extent) → 0 < length (norm n (es ++ a ∷ []))
+    norm-some [] = omega arith
+    norm-some (c ∷ cs) = join-some n c (norm n (cs ++ a ∷ []))
+
+pub push-behind : (n : ℕ) (es : List Extent) (a x : Extent) → joinable n a x ≡ false → push n (norm n (es ++ a ∷ [])) x ≡ norm n (es ++ a ∷ []) ++ x ∷ []
+push-behind n es a x t = sym (norm-push n (es ++ a ∷ []) x) ∙ ap (norm n) (append-assoc es (a ∷ []) (x ∷ [])) ∙ norm-apart n es a x t

@@ -3,22 +3,25 @@ use Prim.Native.Nat.{ℕ, zero, suc, _+_, _*_, _-_, _<_, _≤_}
 use mathlib.Core.Bool.{Bool, true, false, _&&_}
 use mathlib.Core.Path.{_≡_, refl, sym, ap, ap₂, _∙_, subst}
 use mathlib.Core.List.{List, [], _∷_, _++_, map, map-append, append-assoc}
+use mathlib.Core.Logic.{by-cases}
 use native.Mathlib.Omega.{arith}
+use native.Mathlib.Decide.{decLt}
 use borrow.Author.Tests.{lt-ltb, le-ltb, ltb-true}
 use borrow.Rule.Slice.PartMut.{midOf, putMid}
 use lib.Dec.{ltb}
-use lib.ListN.{length, getD, set, replicate, length-drop}
-use lib.Seq.{getD-set-same, getD-set-other}
+use lib.ListN.{length, getD, set, replicate, length-replicate, getD-replicate}
+use lib.Seq.{sets, getD-set-same, getD-set-other, length-sets}
 use Rattle.rules.specs.Counting.{count}
-use Rattle.rules.specs.Extents.{none, extent, end, joinable, slot, putSlot, slotsFrom, flat}
+use Rattle.rules.specs.Extents.{none, extent, end, joinable, slot, putSlot, slotsFrom}
 use Rattle.rules.specs.declared.Extent.{Extent}
 use Rattle.laws.specs.Bools.{and-split}
-use Rattle.laws.specs.Slots.{slots-length, slots-more, flat-slots, put-slot-here, put-slot-else}
+use Rattle.laws.specs.Cells.{sets-low, sets-in, sets-high}
+use Rattle.laws.specs.Slots.{slots-length, slots-more, put-slot-here, put-slot-else}
 use Rattle.laws.specs.Unique.{extent-path}
 use Rattle.laws.specs.Runs.{joinable-true, join-joined, join-apart}
 use Rattle.laws.specs.Norm.{norm, move}
-use Rattle.words.specs.Parts.{mid-tail, put-tail}
-use Rattle.map.specs.Padded.{padded}
+use Rattle.map.specs.Padded.{padded, zeros-holds}
+use Rattle.choosing.specs.Part.{part-filled}
 use Rattle.choosing.specs.Covered.{covered}
 use Rattle.choosing.specs.Ranks.{Ranks}
 use Rattle.reclaiming.specs.Remapped.{remapped, rankedPage, places-moved, push, norm-push, push-last}
@@ -95,8 +98,12 @@ pushed-joined n ws w x l t =
       few = omega arith;
     }
 
+-- extent x goes behind the first w slots without being joined
+abbrev pub Apart : ℕ → List ℕ → ℕ → Extent → Type 0
+Apart n ws w x = push n (slotsFrom ws 0 w) x ≡ slotsFrom ws 0 w ++ x ∷ []
+
 -- behind no slot, or behind one that it is not joinable with
-push-apart : (n : ℕ) (ws : List ℕ) (w : ℕ) (x : Extent) → joinsLast n ws w x ≡ false → push n (slotsFrom ws 0 w) x ≡ slotsFrom ws 0 w ++ x ∷ []
+pub push-apart : (n : ℕ) (ws : List ℕ) (w : ℕ) (x : Extent) → joinsLast n ws w x ≡ false → Apart n ws w x
 unfolding slotsFrom push
 push-apart n ws zero x t = refl
 push-apart n ws (suc j) x t =
@@ -109,15 +116,18 @@ push-apart n ws (suc j) x t =
     ∙ ap (λ (es : List Extent). slotsFrom ws 0 j ++ es) (join-apart n (slot ws j) x [] e′)
     ∙ sym (ap (λ (es : List Extent). es ++ x ∷ []) more ∙ append-assoc (slotsFrom ws 0 j) (slot ws j ∷ []) (x ∷ []))
 
-pub pushed-apart : (n : ℕ) (ws ws′ : List ℕ) (w : ℕ) (x : Extent) → 3 * w + 2 < length ws → joinsLast n ws w x ≡ false → ws′ ≡ putSlot ws w x
-    → Pushed n ws w x ws′ (w + 1)
+pub pushed-apart : (n : ℕ) (ws ws′ : List ℕ) (w : ℕ) (x : Extent) → 3 * w + 2 < length ws → Apart n ws w x → ws′ ≡ putSlot ws w x → Pushed n ws w x ws′ (w + 1)
 pushed-apart n ws ws′ w x l t e = subst (λ (zs : List ℕ). Pushed n ws w x zs (w + 1)) (sym e) record {
   done = slots-more (putSlot ws w x) 0 w w (omega arith)
       ∙ ap₂ (λ (es : List Extent) (y : Extent). es ++ y ∷ []) (slots-same (putSlot ws w x) ws 0 w (λ k p q. put-slot-else ws w x k (λ a b. omega arith))) (put-slot-here ws w x l)
-      ∙ sym (push-apart n ws w x t);
+      ∙ sym t;
   rest = λ k p. put-slot-else ws w x k (λ a b. omega arith);
   few = omega arith;
 }
+
+-- slot i stands there already
+pub pushed-there : (n : ℕ) (ws : List ℕ) (w i : ℕ) → i ≡ w → Apart n ws w (slot ws i) → Pushed n ws w (slot ws i) ws (w + 1)
+pushed-there n ws w i e t = record { done = slots-more ws 0 w i (omega arith) ∙ sym t; rest = λ k p. refl; few = omega arith }
 
 -- after i slots, each moved by g: w stand, joined, and the others are as they were
 pub record Packed (g : ℕ → ℕ) (n : ℕ) (ws : List ℕ) (i : ℕ) (ws′ : List ℕ) (w : ℕ) : Type 0 where
@@ -132,17 +142,18 @@ packed-start g n ws = record { done = refl; rest = λ k h. refl; few = omega ari
 pub packed-slot : (g : ℕ → ℕ) (n : ℕ) (ws ws′ : List ℕ) (i w : ℕ) → Packed g n ws i ws′ w → slot ws′ i ≡ slot ws i
 packed-slot g n ws ws′ i w h = slot-same ws′ ws i (λ k a b. h .rest k a)
 
--- What is pushed for slot i ends at `none` or before it.
-pub packed-ends : (g : ℕ → ℕ) (n : ℕ) (ws ws′ : List ℕ) (i w u : ℕ) (x : Extent) → Packed g n ws i ws′ w → Ends ws u → i < u → x ≡ move g (slot ws′ i) → end x ≤ none
-packed-ends g n ws ws′ i w u x h f l e = omega (arith, f i l, ap end e, ap end (packed-slot g n ws ws′ i w h))
+pub packed-ends : (g : ℕ → ℕ) (n : ℕ) (ws ws′ : List ℕ) (i w u : ℕ) → Packed g n ws i ws′ w → Ends ws u → i < u → end (slot ws′ i) ≤ none
+packed-ends g n ws ws′ i w u h f l = omega (arith, f i l, ap end (packed-slot g n ws ws′ i w h))
 
-pub packed-step : (g : ℕ → ℕ) (n : ℕ) (ws ws′ ws″ : List ℕ) (i w k : ℕ) (x : Extent) → Packed g n ws i ws′ w → x ≡ move g (slot ws′ i)
-    → Pushed n ws′ w x ws″ k → Packed g n ws (i + 1) ws″ k
-packed-step g n ws ws′ ws″ i w k x h e p = record {
-  done = p .done ∙ ap₂ (push n) (h .done) (e ∙ ap (move g) (packed-slot g n ws ws′ i w h))
-      ∙ sym (ap (λ (es : List Extent). norm n (map (move g) es)) (slots-more ws 0 i i (omega arith))
-      ∙ ap (norm n) (map-append (move g) (slotsFrom ws 0 i) (slot ws i ∷ []))
-      ∙ norm-push n (map (move g) (slotsFrom ws 0 i)) (move g (slot ws i)));
+-- one slot more
+pub moved-more : (g : ℕ → ℕ) (ws : List ℕ) (i : ℕ) → map (move g) (slotsFrom ws 0 (i + 1)) ≡ map (move g) (slotsFrom ws 0 i) ++ move g (slot ws i) ∷ []
+moved-more g ws i = ap (map (move g)) (slots-more ws 0 i i (omega arith)) ∙ map-append (move g) (slotsFrom ws 0 i) (slot ws i ∷ [])
+
+pub packed-step : (g : ℕ → ℕ) (n : ℕ) (ws ws′ ws″ : List ℕ) (i w k : ℕ) → Packed g n ws i ws′ w → Pushed n ws′ w (move g (slot ws′ i)) ws″ k
+    → Packed g n ws (i + 1) ws″ k
+packed-step g n ws ws′ ws″ i w k h p = record {
+  done = p .done ∙ ap₂ (push n) (h .done) (ap (move g) (packed-slot g n ws ws′ i w h))
+      ∙ sym (ap (norm n) (moved-more g ws i) ∙ norm-push n (map (move g) (slotsFrom ws 0 i)) (move g (slot ws i)));
   rest = λ j a. p .rest j (omega (arith, h .few)) ∙ h .rest j (omega arith);
   few = omega (arith, p .few, h .few);
 }
@@ -150,19 +161,45 @@ packed-step g n ws ws′ ws″ i w k x h e p = record {
 pub packed-length : (g : ℕ → ℕ) (n : ℕ) (ws ws′ : List ℕ) (i w : ℕ) → Packed g n ws i ws′ w → w ≡ length (norm n (map (move g) (slotsFrom ws 0 i)))
 packed-length g n ws ws′ i w h = sym (slots-length ws′ 0 w) ∙ ap length (h .done)
 
--- and zeros behind them
-pub packed-end : (g : ℕ → ℕ) (n : ℕ) (ws ws′ ys : List ℕ) (i w : ℕ) → 3 * i ≤ length ws → length ws′ ≡ length ws → Packed g n ws i ws′ w
-    → ys ≡ replicate (length (midOf (3 * w) (length ws′ - 3 * w) ws′)) 0
-    → putMid (3 * w) (length ws′ - 3 * w) ws′ ys ≡ padded (length ws) (norm n (map (move g) (slotsFrom ws 0 i)))
-unfolding padded
-packed-end g n ws ws′ ys i w l m h e =
-    let few = h .few in
-    let size : length (midOf (3 * w) (length ws′ - 3 * w) ws′) ≡ length ws - 3 * length (norm n (map (move g) (slotsFrom ws 0 i))) =
-    ap length (mid-tail (3 * w) ws′) ∙ length-drop (3 * w) ws′ ∙ omega (arith, packed-length g n ws ws′ i w h) in
-    put-tail (3 * w) ws′ ys
-    ∙ ap₂ (λ (a b : List ℕ). a ++ b)
-    (sym (flat-slots ws′ w (omega arith)) ∙ ap flat (h .done))
-    (e ∙ ap (λ (k : ℕ). replicate k 0) size)
+-- ---- zeros behind them: where slots stand no longer, and where none stood
+
+-- zeros from a up to b
+module _ (ws : List ℕ) (a b : ℕ) (s : a ≤ b) (l : b ≤ length ws) where
+  abbrev gap : List ℕ
+  gap = replicate (b - a) 0
+
+  abbrev zeroed : List ℕ
+  zeroed = sets ws a gap
+
+  zeroed-put : (ys : List ℕ) → ys ≡ replicate (length (midOf a (b - a) ws)) 0 → putMid a (b - a) ws ys ≡ zeroed
+  zeroed-put ys =
+      let e : a + (b - a) ≡ b = omega arith in
+      subst (λ (c : ℕ). ys ≡ replicate (length (midOf a (c - a) ws)) 0 → putMid a (c - a) ws ys ≡ zeroed) e (part-filled a (b - a) ws ys 0 (omega arith))
+
+  zeroed-length : length zeroed ≡ length ws
+  zeroed-length = length-sets ws a gap
+
+  zeroed-front : (k : ℕ) → k < a → getD zeroed k 0 ≡ getD ws k 0
+  zeroed-front k t = sets-low 0 gap ws a k t
+
+  zeroed-behind : ((k : ℕ) → b ≤ k → k < length ws → getD ws k 0 ≡ 0) → (k : ℕ) → a ≤ k → k < length zeroed → getD zeroed k 0 ≡ 0
+  zeroed-behind z k p q =
+      let m : length gap ≡ b - a = length-replicate (b - a) 0 in
+      by-cases (decLt k b)
+      (λ t. sets-in 0 gap ws a k (k - a) (omega arith) (omega arith) (omega arith) ∙ getD-replicate (b - a) (k - a) 0 0 (omega arith))
+      (λ t. sets-high 0 gap ws a k (omega arith) ∙ z k (omega arith) (omega (arith, zeroed-length)))
+
+pub packed-end : (g : ℕ → ℕ) (n : ℕ) (ws ws′ ys : List ℕ) (i w : ℕ) → 3 * i ≤ length ws → ((k : ℕ) → 3 * i ≤ k → k < length ws → getD ws k 0 ≡ 0)
+    → length ws′ ≡ length ws → Packed g n ws i ws′ w → ys ≡ replicate (length (midOf (3 * w) (3 * i - 3 * w) ws′)) 0
+    → putMid (3 * w) (3 * i - 3 * w) ws′ ys ≡ padded (length ws) (norm n (map (move g) (slotsFrom ws 0 i)))
+packed-end g n ws ws′ ys i w l z m h e =
+    let p : 3 * w ≤ 3 * i = omega (arith, h .few) in
+    let q : 3 * i ≤ length ws′ = omega arith in
+    let ws″ = zeroed ws′ (3 * w) (3 * i) p q in
+    let size : length ws″ ≡ length ws′ = zeroed-length ws′ (3 * w) (3 * i) p q in
+    zeroed-put ws′ (3 * w) (3 * i) p q ys e
+    ∙ zeros-holds ws″ w (omega arith) (zeroed-behind ws′ (3 * w) (3 * i) p q (λ k s t. h .rest k s ∙ z k s (omega arith))) .is
+    ∙ ap₂ padded (size ∙ m) (slots-same ws″ ws′ 0 w (λ k s t. zeroed-front ws′ (3 * w) (3 * i) p q k (omega arith)) ∙ h .done)
 
 -- all of it
 pub moved-map : (ws : List ℕ) (u n : ℕ) (ranks : List ℕ) (v r : ℕ) → 0 < n → Ranks n (covered (slotsFrom ws 0 u) n v) ranks

@@ -10,24 +10,12 @@ ghost use Rattle.rules.specs.Extents.{none, end, joinable, slot, slotsFrom};
 ghost use Rattle.laws.specs.Cells.{copiesInto, swept};
 ghost use Rattle.laws.specs.Norm.{move};
 ghost use Rattle.map.specs.Padded.{padded};
-ghost use Rattle.choosing.specs.Covered.{covered};
-ghost use Rattle.choosing.specs.Ranks.{Ranks, Movable};
+ghost use Rattle.choosing.specs.Ranks.{Movable};
 ghost use Rattle.reclaiming.specs.Remapped.{rankedPage, remapped};
-ghost use Rattle.reclaiming.specs.Slot.{Ends, joinsLast, Pushed};
+ghost use Rattle.reclaiming.specs.Slot.{joinsLast, Pushed, Apart};
+ghost use Rattle.reclaiming.specs.Moves.{Moves};
 ghost use Rattle.reclaiming.specs.Labels.{Copied};
 ghost use Rattle.reclaiming.specs.Emptied.{emptied};
-
-// The page that page p goes to.
-fn page_after(p: u32, n: u32, v: u32, r: u32, ranks: &[u32]) -> u32
-    requires { ⌜ Movable n r (now ranks) ⌝ }
-    ensures { λ q. ⌜ q ≡ rankedPage n (now (ranks .entry)) v r p ⌝ }
-{
-    if p / n != v {
-        return p;
-    }
-    let o = (p % n) as usize;
-    r * n + ranks[o]
-}
 
 const NONE: u32 = 4294967295;
 
@@ -85,20 +73,6 @@ fn joins(a: Extent, b: Extent, n: u32) -> bool
     (b.physical as u64) == (a.physical as u64) + (a.count as u64)
 }
 
-// Slot i with its first page moved: the others go along.
-fn slot_after(ext: &[u32], i: usize, n: u32, v: u32, r: u32, ranks: &[u32]) -> Extent
-    requires { ⌜ (3 * i + 2 < length (now ext)) × Movable n r (now ranks) ⌝ }
-    ensures { λ e. ⌜ e ≡ move (rankedPage n (now (ranks .entry)) v r) (slot (now (ext .entry)) i) ⌝ }
-{
-    let at = 3 * i;
-    let p = page_after(ext[at + 1], n, v, r, ranks);
-    Extent {
-        logical: ext[at],
-        physical: p,
-        count: ext[at + 2],
-    }
-}
-
 // Extent x is joinable with the last of the first w slots.
 fn joins_last(ext: &[u32], w: usize, x: Extent, n: u32) -> bool
     requires { ⌜ (1 ≤ n) × (3 * w ≤ length (now ext)) ⌝ }
@@ -124,19 +98,43 @@ fn push_slot(ext: &mut [u32], w: usize, x: Extent, n: u32) -> usize
     w + 1
 }
 
-// The map afterwards, each slot moved and joined from the left, and zeros behind them: how many extents it has.
+// Slot i goes behind the first w slots. In block v it is moved, and joined where it can be. Elsewhere it stays as it is and joins nothing: no two neighbours did,
+// and what was moved lies in a block of its own. It is stored only where it comes down.
+fn take_slot(ext: &mut [u32], w: usize, i: usize, n: u32, v: u32, r: u32, ranks: &[u32]) -> usize
+    requires { ⌜ (3 * i + 2 < length (now ext)) × (w ≤ i) × (end (slot (now ext) i) ≤ none) ⌝ }
+    requires { ⌜ Movable n v r (now ranks) × Apart n (now ext) w (slot (now ext) i) ⌝ }
+    ensures { λ k. ⌜ Pushed n (now (ext .entry)) w (move (rankedPage n (now (ranks .entry)) v r) (slot (now (ext .entry)) i)) (now (ext .exit)) k ⌝ }
+{
+    let at = 3 * i;
+    let o = std::num::wrapping_sub_u32(ext[at + 1], v * n);
+    if o < n {
+        let p = r * n + ranks[o as usize];
+        let x = Extent {
+            logical: ext[at],
+            physical: p,
+            count: ext[at + 2],
+        };
+        return push_slot(ext, w, x, n);
+    }
+    if w < i {
+        let x = words::slot_at(ext, i);
+        words::put_slot(ext, w, x);
+    }
+    w + 1
+}
+
+// The map afterwards, each slot taken from the left, and zeros where slots stand no longer: how many extents it has.
 pub fn move_map(ext: &mut [u32], used: usize, n: u32, v: u32, r: u32, ranks: &[u32]) -> usize
-    requires { ⌜ (3 * used ≤ length (now ext)) × (1 ≤ n) × (r * n + n ≤ none) × Ranks n (covered (slotsFrom (now ext) 0 used) n v) (now ranks) × Ends (now ext) used ⌝ }
+    requires { ⌜ Moves n v r (now ext) used (now ranks) ⌝ }
     ensures { λ w. ⌜ (w ≡ length (remapped n v r (slotsFrom (now (ext .entry)) 0 used)))
         × (now (ext .exit) ≡ padded (length (now (ext .entry))) (remapped n v r (slotsFrom (now (ext .entry)) 0 used))) ⌝ }
 {
     let mut w: usize = 0;
     let mut i: usize = 0;
     while i < used {
-        let x = slot_after(ext, i, n, v, r, ranks);
-        w = push_slot(ext, w, x, n);
+        w = take_slot(ext, w, i, n, v, r, ranks);
         i += 1;
     }
-    words::fill_with(&mut ext[3 * w..], 0);
+    words::fill_with(&mut ext[3 * w..3 * used], 0);
     w
 }

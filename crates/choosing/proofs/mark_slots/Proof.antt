@@ -22,7 +22,9 @@ loop-holds c =
     (search needs, refl, marks-none _ _ _ (s .args .marks .now) (s .pre .1 .1))
 
 mark-slot-requires : tie.Need-mark-slot-requires Inv-loop μ-loop
-mark-slot-requires c κs = (omega arith, omega arith, omega arith, start (c .before .before) .pre .1 .0 (c .before .before .loop .i) (omega arith))
+mark-slot-requires c κs =
+    let l = c .before .before in
+    ((omega arith, omega arith, omega arith, omega arith), start l .pre .1 .0 (l .loop .i) (omega arith))
 
 loop-again : tie.Need-loop-again Inv-loop μ-loop
 loop-again c =

@@ -12,7 +12,7 @@ abbrev start : tie.After-ranks3 → tie.Start
 start w = w .before .before .before .before .before
 
 mark-slots-requires : tie.Need-mark-slots-requires
-mark-slots-requires c κs = ((omega arith, omega arith, omega arith), (c .before .before .pre .1, λ o h. getD-replicate 257 o 0 0 (omega arith)))
+mark-slots-requires c κs = ((omega arith, omega arith, omega arith, omega arith), (c .before .before .pre .1, λ o h. getD-replicate 257 o 0 0 (omega arith)))
 
 add-up-requires : tie.Need-add-up-requires
 add-up-requires c κs =

@@ -2,7 +2,7 @@ use borrow.Author.Needs.{needs}
 use native.Mathlib.Omega.{arith}
 use mathlib.Core.Path.{refl}
 use Rattle.rules.specs.Lent.{Lent, lent}
-use Rattle.emptying.specs.Empties.{reclaim-walkable, reclaim-moves, reclaim-lists, reclaim-copied, reclaim-few, reclaim-answer}
+use Rattle.emptying.specs.Empties.{reclaim-walkable, reclaim-moves, reclaim-lists, reclaim-copied, reclaim-map, reclaim-few, reclaim-answer}
 use Rattle.emptying.proofs.empty_victim.Statement.{statement}
 use Rattle.emptying.proofs.empty_victim.Tie as tie
 
@@ -20,8 +20,8 @@ ranked l = l .before .before .before .before .before .before .before .before
 ranks-of-requires : tie.Need-ranks-of-requires
 ranks-of-requires c κs =
     let s = c .before .before .before .before .before .before in
-    let w = reclaim-walkable (s .args .out .now) (state s) (s .pre .0) in
-    ((w .slots, w .some, w .few), w .inside)
+    let w = reclaim-walkable (s .args .out .now) (state s) (s .pre .0) (s .args .v) (s .pre .1) in
+    ((w .slots, w .some, w .few, w .room), w .inside)
 
 list-sources-requires : tie.Need-list-sources-requires
 list-sources-requires c κs =
@@ -45,8 +45,7 @@ move-map-requires : tie.Need-move-map-requires
 move-map-requires c κs =
     let r = ranked (c .before .before .before .before .before .before .before .before) in
     let s = start r in
-    let w = reclaim-walkable (s .args .out .now) (state s) (s .pre .0) in
-    (w .slots, w .some, w .room, r .ranks-of .ensures, w .ends)
+    reclaim-map (s .args .out .now) (state s) (s .pre .0) (s .args .v) (s .pre .1) (r .ranks-of .result) (r .ranks-of .ensures)
 
 cast-after : tie.Need-cast-after
 cast-after c =

@@ -1,15 +1,10 @@
 use Prim.Native.Nat.{ℕ, _-_, _≤_}
-use mathlib.Core.Path.{_≡_, refl, ap, _∙_}
-use mathlib.Core.List.{List, map}
+use mathlib.Core.Path.{_≡_, refl, ap, _∙_, subst}
 use lib.ListN.{length}
-use Rattle.rules.specs.Extents.{slotsFrom}
-use Rattle.rules.specs.declared.Extent.{Extent}
-use Rattle.laws.specs.Norm.{norm, move}
-use Rattle.choosing.specs.Covered.{covered}
-use Rattle.choosing.specs.Ranks.{ranks-movable}
 use Rattle.reclaiming.specs.Remapped.{rankedPage}
 use Rattle.map.specs.Padded.{padded}
 use Rattle.reclaiming.specs.Slot.{Packed, packed-start, packed-ends, packed-step, packed-length, packed-end, moved-map}
+use Rattle.reclaiming.specs.Moves.{moves-movable, packed-apart}
 use borrow.Author.Needs.{needs}
 use native.Mathlib.Omega.{arith}
 use Rattle.reclaiming.proofs.move_map.Statement.{statement}
@@ -34,36 +29,34 @@ loop-holds c =
     let a = s .args in
     (search needs, refl, packed-start (to s) (a .n) (a .ext .now))
 
-slot-after-requires : tie.Need-slot-after-requires Inv-loop μ-loop
-slot-after-requires c κs =
-    let s = start (c .before .before) in
+take-slot-requires : tie.Need-take-slot-requires Inv-loop μ-loop
+take-slot-requires c κs =
+    let l = c .before .before in
+    let o = l .loop in
+    let s = start l in
     let a = s .args in
-    let reached = covered (slotsFrom (a .ext .now) 0 (a .used)) (a .n) (a .v) in
-    (omega arith, ranks-movable (a .n) reached (a .ranks .now) (s .pre .3) (a .r) (omega arith) (omega arith))
-
-push-slot-requires : tie.Need-push-slot-requires Inv-loop μ-loop
-push-slot-requires c κs =
-    let w = c .before .before .before .before in
-    let o = w .loop in
-    let s = start w in
-    let a = s .args in
-    let ends = packed-ends (to s) (a .n) (a .ext .now) (o .ext) (o .i) (o .w) (a .used) (c .before .slot-after .result) in
-    (omega arith, omega (arith, o .inv .2 .few), ends (o .inv .2) (s .pre .4) (omega arith) (c .before .slot-after .ensures))
+    let p = s .pre in (
+      (
+        omega (arith, p .slots),
+        o .inv .2 .few,
+        packed-ends (to s) (a .n) (a .ext .now) (o .ext) (o .i) (o .w) (a .used) (o .inv .2) (p .ends) (omega arith),
+      ),
+      (
+        moves-movable (a .n) (a .v) (a .r) (a .ext .now) (a .used) (a .ranks .now) p,
+        packed-apart (a .n) (a .v) (a .r) (a .ext .now) (a .used) (a .ranks .now) p (o .ext) (o .i) (o .w) (o .inv .2) (omega arith),
+      ),
+    )
 
 loop-again : tie.Need-loop-again Inv-loop μ-loop
 loop-again c =
-    let p = c .before .before in
-    let m = p .before .before in
-    let w = m .before .before .before in
-    let o = w .loop in
-    let s = start w in
-    let a = s .args in
-    let moved = m .slot-after in
-    let pushed = p .push-slot in (
+    let t = c .before .before in
+    let l = t .before .before .before in
+    let o = l .loop in
+    let s = start l in
+    let a = s .args in (
       search needs,
       search needs,
-      packed-step (to s) (a .n) (a .ext .now) (o .ext) (pushed .last .0) (o .i) (o .w) (pushed .result) (moved .result)
-          (o .inv .2) (moved .ensures) (pushed .ensures),
+      packed-step (to s) (a .n) (a .ext .now) (o .ext) (t .take-slot .last .0) (o .i) (o .w) (t .take-slot .result) (o .inv .2) (t .take-slot .ensures),
     )
 
 returns : tie.Need-returns Inv-loop μ-loop
@@ -75,17 +68,16 @@ returns c =
     let a = s .args in
     let filled = f .fill-with in
     let e : o .i ≡ a .used = omega arith in
-    let all = moved-map (a .ext .now) (a .used) (a .n) (a .ranks .now) (a .v) (a .r) (omega arith) (s .pre .3) in
-    let after : ℕ → List Extent = λ k. norm (a .n) (map (move (to s)) (slotsFrom (a .ext .now) 0 k)) in (
-      packed-length (to s) (a .n) (a .ext .now) (o .ext) (o .i) (o .w) (o .inv .2) ∙ ap (λ (k : ℕ). length (after k)) e ∙ ap length all,
-      packed-end (to s) (a .n) (a .ext .now) (o .ext) (filled .last .0) (o .i) (o .w) (omega arith) (omega arith) (o .inv .2) (filled .ensures)
-          ∙ ap (λ (k : ℕ). padded (length (a .ext .now)) (after k)) e
+    let packed = subst (λ (k : ℕ). Packed (to s) (a .n) (a .ext .now) k (o .ext) (o .w)) e (o .inv .2) in
+    let all = moved-map (a .ext .now) (a .used) (a .n) (a .ranks .now) (a .v) (a .r) (s .pre .some) (s .pre .ranked) in (
+      packed-length (to s) (a .n) (a .ext .now) (o .ext) (a .used) (o .w) packed ∙ ap length all,
+      packed-end (to s) (a .n) (a .ext .now) (o .ext) (filled .last .0) (a .used) (o .w) (s .pre .slots) (s .pre .zeros) (omega arith) packed (filled .ensures)
           ∙ ap (padded (length (a .ext .now))) all,
     )
 
 pub move-map-spec : {M : Type 1} → statement M
 move-map-spec =
     tie.close
-    (tie.spec Inv-loop μ-loop loop-holds slot-after-requires push-slot-requires (λ c. search needs) (λ c. search needs) loop-again
-    (λ c. search needs) (λ c. search needs) (λ c. search needs) (λ c. search needs) (λ c. search needs) (λ c κs. search needs)
-    (λ c. search needs) returns)
+    (tie.spec Inv-loop μ-loop loop-holds take-slot-requires (λ c. search needs) (λ c. search needs) loop-again
+    (λ c. search needs) (λ c. search needs) (λ c. search needs) (λ c. search needs) (λ c. search needs) (λ c. search needs)
+    (λ c κs. search needs) (λ c. search needs) returns)

@@ -1,7 +1,7 @@
 use mathlib.Core.Path.{sym, _∙_}
 use native.Mathlib.Omega.{arith}
 use lib.ListN.{length-set}
-use Rattle.reclaiming.specs.Slot.{Last, joins-last, pushed-joined, pushed-apart}
+use Rattle.reclaiming.specs.Slot.{Last, joins-last, pushed-joined, push-apart, pushed-apart}
 use borrow.Author.Needs.{needs}
 use Rattle.reclaiming.proofs.push_slot.Statement.{statement}
 use Rattle.reclaiming.proofs.push_slot.Tie as tie
@@ -54,7 +54,7 @@ returns-2 c =
     let j = t .before in
     let a = start j .args in
     pushed-apart (a .n) (a .ext .now) (p .put-slot .last .0) (a .w) (a .x) (omega arith)
-    (sym (j .joins-last .ensures) ∙ t .if1 .left) (p .put-slot .ensures)
+    (push-apart (a .n) (a .ext .now) (a .w) (a .x) (sym (j .joins-last .ensures) ∙ t .if1 .left)) (p .put-slot .ensures)
 
 pub push-slot-spec : {M : Type 1} → statement M
 push-slot-spec =
