@@ -27,8 +27,9 @@ fn main() -> ExitCode {
         ["map"] => print(map::table(false)),
         ["quick"] => {
             warn_of_emulation();
-            print(calls::table(&calls::SAMPLES[..2]));
-            print(growth::table(&[Sample { repeats: 101, ..growth::SAMPLES[0] }]));
+            let few = |sample: &Sample| Sample { rounds: 51, ..*sample };
+            print(calls::table(&calls::SAMPLES[..4].iter().map(few).collect::<Vec<_>>()));
+            print(growth::table(&growth::SAMPLES[..1].iter().map(few).collect::<Vec<_>>()));
             print(map::table(true));
         }
         _ => {
