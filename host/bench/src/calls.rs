@@ -1,6 +1,6 @@
-//! Each call on states of several sizes, against one pass over the same words,
-//! against the test of a sound state in plain Rust, and against the same call of
-//! the second implementation.
+//! Each call on states of several sizes and kinds, against one pass over the same words,
+//! against a report, against the test of a sound state in plain Rust, and against the
+//! same call of the second implementation.
 
 use compare::to_library;
 use second::random::Random;
@@ -12,12 +12,13 @@ use crate::progress;
 use crate::sound::{pass, sound};
 
 /// The samples of the table: B x N of 4,096, 65,536 and 262,144, with few extents
-/// and with many, these of each kind. At 4,096 there are not pages enough for 8,192.
+/// and with many, these of each kind. At 4,096 there are not pages enough for 8,192: 1,984
+/// are of one page each, and of random lengths there are 960.
 pub const SAMPLES: [Sample; 12] = [
     Sample { extents: 16, ..SMALL },
     SMALL,
     Sample { kind: Kind::Shuffled, ..SMALL },
-    Sample { kind: Kind::Random, ..SMALL },
+    Sample { extents: 960, kind: Kind::Random, ..SMALL },
     Sample { extents: 16, ..MIDDLING },
     MIDDLING,
     Sample { kind: Kind::Shuffled, ..MIDDLING },

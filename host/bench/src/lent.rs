@@ -125,7 +125,9 @@ impl Lent {
         }
     }
 
-    /// The same call of the library; its refusal.
+    /// The same call of the library; its refusal. It is called from the frame of whoever asks
+    /// for it, so that no other lies between where stack is measured.
+    #[inline(always)]
     pub fn library(&mut self, call: Call) -> u32 {
         let (start, count) = self.range;
         let Head { blocks, pages, logical, slots, last, .. } = self.head;
