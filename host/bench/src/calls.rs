@@ -18,20 +18,21 @@ pub const SAMPLES: [Sample; 12] = [
     Sample { extents: 16, ..SMALL },
     SMALL,
     Sample { kind: Kind::Shuffled, ..SMALL },
-    Sample { extents: 960, kind: Kind::Random, ..SMALL },
+    Sample { extents: 960, kind: Kind::Irregular, ..SMALL },
     Sample { extents: 16, ..MIDDLING },
     MIDDLING,
     Sample { kind: Kind::Shuffled, ..MIDDLING },
-    Sample { kind: Kind::Random, ..MIDDLING },
+    Sample { kind: Kind::Irregular, ..MIDDLING },
     Sample { extents: 16, ..LARGE },
     LARGE,
     Sample { kind: Kind::Shuffled, ..LARGE },
-    Sample { kind: Kind::Random, ..LARGE },
+    Sample { kind: Kind::Irregular, ..LARGE },
 ];
 
-const SMALL: Sample = Sample { blocks: 64, pages: 64, extents: 1984, kind: Kind::Falling, rounds: 801 };
-const MIDDLING: Sample = Sample { blocks: 256, pages: 256, extents: 8192, kind: Kind::Falling, rounds: 401 };
-const LARGE: Sample = Sample { blocks: 1024, pages: 256, extents: 8192, kind: Kind::Falling, rounds: 201 };
+const SMALL: Sample = Sample { blocks: 64, pages: 64, extents: 1984, kind: Kind::Scattered, rounds: 801 };
+const MIDDLING: Sample =
+    Sample { blocks: 256, pages: 256, extents: 8192, kind: Kind::Scattered, rounds: 401 };
+const LARGE: Sample = Sample { blocks: 1024, pages: 256, extents: 8192, kind: Kind::Scattered, rounds: 201 };
 
 const CALLS: [(Call, &str); 8] = [
     (Call::Report, "report"),

@@ -13,7 +13,7 @@ pub const SAMPLES: [Sample; 4] =
 
 /// All slots are in use. The extents are of one page each, so a write covers more of them
 /// than it adds.
-const FULL: Sample = Sample { blocks: 68, pages: 256, extents: 8192, kind: Kind::Falling, rounds: 2001 };
+const FULL: Sample = Sample { blocks: 68, pages: 256, extents: 8192, kind: Kind::Scattered, rounds: 2001 };
 
 /// A call that is measured: on how many pages, if it is on few, and whether on a nearly full
 /// device.
@@ -153,7 +153,7 @@ mod tests {
         for sample in &SAMPLES {
             let pieces =
                 |kind| device(&Sample { kind, ..*sample }).write(1, 100, 48).map(|pieces| pieces.len());
-            assert_eq!((pieces(Kind::Falling), pieces(Kind::NearlyFull)), (Ok(1), Ok(12)));
+            assert_eq!((pieces(Kind::Scattered), pieces(Kind::NearlyFull)), (Ok(1), Ok(12)));
         }
     }
 

@@ -14,21 +14,21 @@ pub const SLOTS: u32 = 8192;
 #[derive(Clone, Copy, Debug, PartialEq, Eq)]
 pub enum Kind {
     /// Equal runs; the logical pages fall where the physical ones rise.
-    Falling,
+    Scattered,
     /// The same runs in random logical order.
     Shuffled,
     /// Runs of random lengths in random places and in random logical order.
-    Random,
-    /// As falling, but with four pages of each block free: a write of 48 has 12 pieces.
+    Irregular,
+    /// As scattered, but with four pages of each block free: a write of 48 has 12 pieces.
     NearlyFull,
 }
 
 impl Kind {
     pub fn name(self) -> &'static str {
         match self {
-            Kind::Falling => "falling",
+            Kind::Scattered => "scattered",
             Kind::Shuffled => "shuffled",
-            Kind::Random => "random",
+            Kind::Irregular => "irregular",
             Kind::NearlyFull => "nearly full",
         }
     }
@@ -51,9 +51,9 @@ impl Sample {
         let logical = (blocks - 2) * pages;
         let random = &mut Random::new(7);
         match self.kind {
-            Kind::Falling => generate::scattered(blocks, pages, logical, SLOTS, extents),
+            Kind::Scattered => generate::scattered(blocks, pages, logical, SLOTS, extents),
             Kind::Shuffled => generate::shuffled(random, blocks, pages, logical, SLOTS, extents),
-            Kind::Random => generate::irregular(random, blocks, pages, logical, SLOTS, extents),
+            Kind::Irregular => generate::irregular(random, blocks, pages, logical, SLOTS, extents),
             Kind::NearlyFull => generate::nearly_full(blocks, pages, logical, SLOTS, extents, 4),
         }
     }

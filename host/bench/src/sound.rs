@@ -48,7 +48,7 @@ fn extents_fit(in_use: &[u32], pages: u32, spare: &[u32], mapped: &mut [u32]) ->
     for extent in in_use.chunks_exact(3) {
         let (logical, physical, count) = (extent[0], extent[1], extent[2]);
         let (block, offset) = (physical / pages, physical % pages);
-        // Below 2^31 and a block's pages more, no sum runs over and no label is an erased one.
+        // So far below 2^32 no sum runs over, and no logical page is the word of an erased entry.
         if logical < end || logical >= 1 << 31 || count == 0 || count > pages - offset {
             return false;
         }
@@ -72,11 +72,13 @@ fn extents_fit(in_use: &[u32], pages: u32, spare: &[u32], mapped: &mut [u32]) ->
 /// Labels that are compared at a time.
 const WINDOW: usize = 8;
 
-/// Ones and zeros: what begins k words before the zeros lets the first k labels count.
+/// Ones, then zeros: from k words before the zeros on, it lets the first k labels of a window
+/// count.
 const MASKS: [u32; 2 * WINDOW] = [!0, !0, !0, !0, !0, !0, !0, !0, 0, 0, 0, 0, 0, 0, 0, 0];
 
-/// Whether the labels from a page on are so many logical pages, 1 up to a block's pages:
-/// in windows, but for the last pages, where these could reach beyond the last label.
+/// Whether the labels of so many pages, 1 up to a block's, from `first` on are the logical
+/// pages from `logical` on. They are compared in windows, but for those of the last pages,
+/// where a window could reach beyond the last label.
 #[inline(always)]
 fn labelled(spare: &[u32], pages: usize, first: usize, logical: u32, count: usize) -> bool {
     let reach = (pages + WINDOW - 1) / WINDOW * WINDOW;
@@ -88,7 +90,8 @@ fn labelled(spare: &[u32], pages: usize, first: usize, logical: u32, count: usiz
     }
 }
 
-/// The last window is masked, so no label is compared by itself.
+/// The same where a block's labels, in whole windows, are there. The last window is masked,
+/// so no label is compared by itself.
 #[inline(always)]
 fn labelled_in_windows(labels: &[u32], mut logical: u32, mut count: usize) -> bool {
     for window in labels.chunks_exact(WINDOW) {

@@ -115,8 +115,8 @@ fn run_length(device: &Device, fill: u32, extents: u32) -> u32 {
     ((device.blocks - 2) * fill / (2 * extents)).clamp(1, (fill + 1) / 2)
 }
 
-/// So many equal runs, as many as fit, each followed by as many stale pages. So many pages
-/// at the end of each block stay free.
+/// So many equal runs, or as many as fit, each followed by as many stale pages. So many
+/// pages at the end of each block stay free.
 fn equal_runs(device: &Device, extents: u32, free: u32) -> Vec<Run> {
     let fill = device.pages - free;
     let live = run_length(device, fill, extents);
@@ -131,8 +131,8 @@ fn equal_runs(device: &Device, extents: u32, free: u32) -> Vec<Run> {
     runs
 }
 
-/// So many runs, as many as fit, of 1 page up to twice the length of equal ones less one,
-/// each followed by so many stale pages too, all cut at the block's end. A stale page lies
+/// So many runs, or as many as fit: each of 1 page up to twice the length of equal ones
+/// less one, and so many stale pages behind it, cut at the block's end. A stale page lies
 /// between any two in a block, so no two are joinable.
 fn random_runs(random: &mut Random, device: &Device, extents: u32) -> Vec<Run> {
     let pages = device.pages;
@@ -167,7 +167,7 @@ fn put_runs(device: &mut Device, runs: &[Run]) {
     }
 }
 
-/// A sound state of so many extents, as many as fit: in each block used, runs of
+/// A sound state of so many extents, or as many as fit: in each block used, runs of
 /// live pages, each followed by as many stale ones. The logical pages fall where the
 /// physical ones rise. The last two blocks are empty, one of them the reserve. The sizes
 /// must be those of document 01.
