@@ -3,11 +3,36 @@
 use std::time::Instant;
 
 use compare::to_library;
+use second::random::Random;
 use second::{generate, Block, Head, Layer, Second, Words};
 use utasiro::ffi;
 
 /// M of every state, so that few extents and many are in the same words.
 pub const SLOTS: u32 = 8192;
+
+/// How the extents of a state lie.
+#[derive(Clone, Copy, Debug, PartialEq, Eq)]
+pub enum Kind {
+    /// Equal runs; the logical pages fall where the physical ones rise.
+    Scattered,
+    /// The same runs in random logical order.
+    Shuffled,
+    /// Runs of random lengths in random places and in random logical order.
+    Irregular,
+    /// As scattered, but with four pages of each block free: a write of 48 has 12 pieces.
+    NearlyFull,
+}
+
+impl Kind {
+    pub fn name(self) -> &'static str {
+        match self {
+            Kind::Scattered => "scattered",
+            Kind::Shuffled => "shuffled",
+            Kind::Irregular => "irregular",
+            Kind::NearlyFull => "nearly full",
+        }
+    }
+}
 
 /// A state to measure on, and how many times.
 #[derive(Clone, Copy)]
@@ -16,10 +41,25 @@ pub struct Sample {
     pub pages: u32,
     /// Extents in use, if so many fit.
     pub extents: u32,
-    pub repeats: u32,
+    pub kind: Kind,
+    pub rounds: u32,
 }
 
-#[derive(Clone, Copy)]
+impl Sample {
+    fn state(&self) -> (Head, Words) {
+        let Sample { blocks, pages, extents, .. } = *self;
+        let logical = (blocks - 2) * pages;
+        let random = &mut Random::new(7);
+        match self.kind {
+            Kind::Scattered => generate::scattered(blocks, pages, logical, SLOTS, extents),
+            Kind::Shuffled => generate::shuffled(random, blocks, pages, logical, SLOTS, extents),
+            Kind::Irregular => generate::irregular(random, blocks, pages, logical, SLOTS, extents),
+            Kind::NearlyFull => generate::nearly_full(blocks, pages, logical, SLOTS, extents, 4),
+        }
+    }
+}
+
+#[derive(Clone, Copy, Debug, PartialEq, Eq)]
 pub enum Call {
     Report,
     Read,
@@ -41,17 +81,25 @@ pub struct Lent {
 }
 
 impl Lent {
-    /// A sample's state, and 48 pages behind a quarter of the logical ones.
+    /// A sample's state, and 48 mapped pages from behind the first one of the extent in the
+    /// middle of the map on.
     pub fn of(sample: &Sample) -> Lent {
-        let logical = (sample.blocks - 2) * sample.pages;
-        let (head, words) = generate::scattered(sample.blocks, sample.pages, logical, SLOTS, sample.extents);
-        Lent { head, words, answer: vec![0; 3 * (2 * SLOTS as usize + 1)], range: (logical / 4 + 1, 48) }
+        let (head, words) = sample.state();
+        let answer = vec![0; 3 * (2 * SLOTS as usize + 1)];
+        let range = (words.extents[3 * (head.used as usize / 2)] + 1, 48);
+        Lent { head, words, answer, range }
     }
 
     pub fn take(&mut self, from: &Words) {
         self.words.extents.copy_from_slice(&from.extents);
         self.words.blocks.copy_from_slice(&from.blocks);
         self.words.spare.copy_from_slice(&from.spare);
+    }
+
+    /// The nanoseconds that something takes on words copied afresh.
+    pub fn time(&mut self, from: &Words, run: impl FnOnce(&mut Lent)) -> f64 {
+        self.take(from);
+        nanoseconds(|| run(self))
     }
 
     /// Makes the last block's valid count wrong, which is the last thing that a test of the
@@ -77,7 +125,9 @@ impl Lent {
         }
     }
 
-    /// The same call of the library; its refusal.
+    /// The same call of the library; its refusal. It is called from the frame of whoever asks
+    /// for it, so that no other lies between where stack is measured.
+    #[inline(always)]
     pub fn library(&mut self, call: Call) -> u32 {
         let (start, count) = self.range;
         let Head { blocks, pages, logical, slots, last, .. } = self.head;
@@ -114,7 +164,7 @@ pub fn black_box<T: Copy>(value: T) -> T {
     unsafe { std::ptr::read_volatile(&value) }
 }
 
-pub fn nanoseconds(run: impl FnOnce()) -> f64 {
+fn nanoseconds(run: impl FnOnce()) -> f64 {
     let start = Instant::now();
     run();
     start.elapsed().as_nanos() as f64

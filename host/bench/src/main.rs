@@ -1,10 +1,11 @@
-//! `bench` prints the tables of docs/BENCHMARK.md; `bench calls`, `bench growth` and
-//! `bench map` print one of them, `bench quick` tries all on little.
+//! `bench` prints the tables of docs/BENCHMARK.md; `bench calls`, `bench growth`, `bench map`
+//! and `bench size` print one of them, `bench quick` tries all on little. `bench size FOLDER`
+//! tells how long the code of the library in a folder is.
 
 use std::process::ExitCode;
 
 use bench::lent::Sample;
-use bench::{calls, growth, map};
+use bench::{calls, growth, map, size};
 
 fn main() -> ExitCode {
     let arguments: Vec<String> = std::env::args().skip(1).collect();
@@ -15,6 +16,7 @@ fn main() -> ExitCode {
             print(calls::table(&calls::SAMPLES));
             print(growth::table(&growth::SAMPLES));
             print(map::table(false));
+            return print_or_say(size::table(size::LINKED));
         }
         ["calls"] => {
             warn_of_emulation();
@@ -25,24 +27,31 @@ fn main() -> ExitCode {
             print(growth::table(&growth::SAMPLES));
         }
         ["map"] => print(map::table(false)),
+        ["size"] => {
+            warn_of_emulation();
+            return print_or_say(size::table(size::LINKED));
+        }
+        ["size", folder] => return print_or_say(size::table(folder)),
         ["quick"] => {
             warn_of_emulation();
-            print(calls::table(&calls::SAMPLES[..2]));
-            print(growth::table(&[Sample { repeats: 101, ..growth::SAMPLES[0] }]));
+            let few = |sample: &Sample| Sample { rounds: 51, ..*sample };
+            print(calls::table(&calls::SAMPLES[..4].iter().map(few).collect::<Vec<_>>()));
+            print(growth::table(&growth::SAMPLES[..1].iter().map(few).collect::<Vec<_>>()));
             print(map::table(true));
+            return print_or_say(size::table(size::LINKED));
         }
         _ => {
-            eprintln!("usage: bench [calls | growth | map | quick]");
+            eprintln!("usage: bench [calls | growth | map | size [FOLDER] | quick]");
             return ExitCode::from(2);
         }
     }
     ExitCode::SUCCESS
 }
 
-/// Says so where the times mean nothing: the library is compiled for x86-64.
+/// Says so where the figures mean nothing: the library is compiled for x86-64.
 fn warn_of_emulation() {
     if std::env::consts::ARCH != "x86_64" {
-        println!("This machine is no x86-64, for which the library is compiled: the times below mean");
+        println!("This machine is no x86-64, for which the library is compiled: the figures below mean");
         println!("something only if UTASIRO_LIB_DIR was the folder that host/native/make prints.\n");
     }
 }
@@ -51,4 +60,18 @@ fn warn_of_emulation() {
 fn print(table: Vec<String>) {
     table.iter().for_each(|line| println!("{line}"));
     println!();
+}
+
+/// A table, or why there is none.
+fn print_or_say(table: Result<Vec<String>, String>) -> ExitCode {
+    match table {
+        Ok(table) => {
+            print(table);
+            ExitCode::SUCCESS
+        }
+        Err(why) => {
+            eprintln!("{why}");
+            ExitCode::FAILURE
+        }
+    }
 }

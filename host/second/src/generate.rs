@@ -1,5 +1,6 @@
 //! Random requests for trying a layer: mostly usual ones, at times at a limit or
-//! beyond it, repeated, or with a short answer buffer.
+//! beyond it, repeated, or with a short answer buffer. And sound states for trying and
+//! measuring one, which no history has come to.
 
 use crate::device::Device;
 use crate::random::Random;
@@ -99,25 +100,130 @@ pub fn filled(random: &mut Random, fresh: Request) -> Vec<Request> {
     history
 }
 
-/// A sound state of so many extents, as long as fit: in each block used, runs of
-/// live pages, each followed by as many stale ones. The last two blocks are empty,
-/// one of them the reserve. The sizes must be those of document 01.
-pub fn scattered(blocks: u32, pages: u32, logical: u32, slots: u32, extents: u32) -> (Head, Words) {
-    let mut device = Device::fresh(blocks, pages, logical, slots);
-    let run = ((blocks - 2) * pages / (2 * extents)).clamp(1, (pages + 1) / 2);
-    let mut left = extents.min(logical / run);
-    for block in 0..blocks - 2 {
-        let mut offset = 0;
-        while left > 0 && offset + run <= pages {
-            left -= 1;
-            let first = block * pages + offset;
-            (0..run).for_each(|k| device.table[(left * run + k) as usize] = first + k);
-            let filled = (offset + 2 * run).min(pages);
-            device.fills[block as usize] = filled;
-            let labels = &mut device.spare[first as usize..(block * pages + filled) as usize];
-            labels.iter_mut().zip(left * run..).for_each(|(label, l)| *label = l.min(logical - 1));
-            offset += 2 * run;
+/// A run of live pages and the stale ones behind it, all in one block.
+#[derive(Clone, Copy)]
+struct Run {
+    /// The first physical page.
+    first: u32,
+    live: u32,
+    stale: u32,
+}
+
+/// How long so many runs are if, each followed by as many stale pages, they take up all
+/// blocks but two up to a fill.
+fn run_length(device: &Device, fill: u32, extents: u32) -> u32 {
+    ((device.blocks - 2) * fill / (2 * extents)).clamp(1, (fill + 1) / 2)
+}
+
+/// So many equal runs, or as many as fit, each followed by as many stale pages. So many
+/// pages at the end of each block stay free.
+fn equal_runs(device: &Device, extents: u32, free: u32) -> Vec<Run> {
+    let fill = device.pages - free;
+    let live = run_length(device, fill, extents);
+    let mut runs = Vec::new();
+    for block in 0..device.blocks - 2 {
+        for offset in (0..=fill - live).step_by(2 * live as usize) {
+            let stale = live.min(fill - offset - live);
+            runs.push(Run { first: block * device.pages + offset, live, stale });
         }
+    }
+    runs.truncate(extents.min(device.logical / live) as usize);
+    runs
+}
+
+/// So many runs, or as many as fit: each of 1 page up to twice the length of equal ones
+/// less one, and so many stale pages behind it, cut at the block's end. A stale page lies
+/// between any two in a block, so no two are joinable.
+fn random_runs(random: &mut Random, device: &Device, extents: u32) -> Vec<Run> {
+    let pages = device.pages;
+    let most = 2 * run_length(device, pages, extents) - 1;
+    let mut lines = device.logical;
+    let mut runs = Vec::new();
+    for block in 0..device.blocks - 2 {
+        let mut offset = 0;
+        while offset < pages && lines > 0 && runs.len() < extents as usize {
+            let live = random.between(1, most).min(pages - offset).min(lines);
+            let stale = random.between(1, most).min(pages - offset - live);
+            runs.push(Run { first: block * pages + offset, live, stale });
+            offset += live + stale;
+            lines -= live;
+        }
+    }
+    runs
+}
+
+/// Puts runs on a fresh device, in falling logical order down to page 0. The labels of the
+/// stale pages go on where those of the run end.
+fn put_runs(device: &mut Device, runs: &[Run]) {
+    let mut start = runs.iter().map(|run| run.live).sum::<u32>();
+    for run in runs {
+        start -= run.live;
+        (0..run.live).for_each(|k| device.table[(start + k) as usize] = run.first + k);
+        let programmed = run.live + run.stale;
+        let labels = &mut device.spare[run.first as usize..(run.first + programmed) as usize];
+        labels.iter_mut().zip(start..).for_each(|(label, l)| *label = l.min(device.logical - 1));
+        let fill = &mut device.fills[(run.first / device.pages) as usize];
+        *fill = (run.first % device.pages + programmed).max(*fill);
+    }
+}
+
+/// A sound state of so many extents, or as many as fit: in each block used, runs of
+/// live pages, each followed by as many stale ones. The logical pages fall where the
+/// physical ones rise. The last two blocks are empty, one of them the reserve. The sizes
+/// must be those of document 01.
+pub fn scattered(blocks: u32, pages: u32, logical: u32, slots: u32, extents: u32) -> (Head, Words) {
+    nearly_full(blocks, pages, logical, slots, extents, 0)
+}
+
+/// As [`scattered`], but so many pages of each block, fewer than it has, stay free: a write
+/// of more falls into pieces.
+pub fn nearly_full(
+    blocks: u32,
+    pages: u32,
+    logical: u32,
+    slots: u32,
+    extents: u32,
+    free: u32,
+) -> (Head, Words) {
+    let mut device = Device::fresh(blocks, pages, logical, slots);
+    let runs = equal_runs(&device, extents, free);
+    put_runs(&mut device, &runs);
+    words_of(&device)
+}
+
+/// As [`scattered`], but which run is which in logical order is left to chance.
+pub fn shuffled(
+    random: &mut Random,
+    blocks: u32,
+    pages: u32,
+    logical: u32,
+    slots: u32,
+    extents: u32,
+) -> (Head, Words) {
+    let mut device = Device::fresh(blocks, pages, logical, slots);
+    let mut runs = equal_runs(&device, extents, 0);
+    random.shuffle(&mut runs);
+    put_runs(&mut device, &runs);
+    words_of(&device)
+}
+
+/// As [`scattered`], but the lengths and places of the runs, their logical order and the
+/// labels of stale pages are left to chance.
+pub fn irregular(
+    random: &mut Random,
+    blocks: u32,
+    pages: u32,
+    logical: u32,
+    slots: u32,
+    extents: u32,
+) -> (Head, Words) {
+    let mut device = Device::fresh(blocks, pages, logical, slots);
+    let mut runs = random_runs(random, &device, extents);
+    random.shuffle(&mut runs);
+    put_runs(&mut device, &runs);
+    for run in &runs {
+        let stale = run.first + run.live..run.first + run.live + run.stale;
+        stale.for_each(|page| device.spare[page as usize] = random.between(0, logical - 1));
     }
     words_of(&device)
 }

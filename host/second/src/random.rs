@@ -29,4 +29,11 @@ impl Random {
     pub fn pick<T: Copy>(&mut self, from: &[T]) -> T {
         from[self.between(0, from.len() as u32 - 1) as usize]
     }
+
+    /// Every order comes out as often as any other.
+    pub fn shuffle<T>(&mut self, items: &mut [T]) {
+        for last in (1..items.len()).rev() {
+            items.swap(last, self.between(0, last as u32) as usize);
+        }
+    }
 }
