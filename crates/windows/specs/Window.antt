@@ -122,7 +122,7 @@ window-says ws a l e m r h i g few s =
 -- ---- windows one after the other
 
 pub record Windowed (ws : List ℕ) (l c : ℕ) (table : List ℕ) : Type 0 where
-  pub more : 8 < c
+  pub some : 0 < c
   pub room : c + 8 ≤ length ws
   pub low : l + c + 8 ≤ none
   pub table-is : Table table
@@ -133,7 +133,7 @@ pub record Going (ws : List ℕ) (l c e k : ℕ) : Type 0 where
   pub ends : e ≡ l + k + 8
   pub done : (j : ℕ) → j < k → getD ws j 0 ≡ l + j
 
-pub going-start : (ws : List ℕ) (l c : ℕ) → 8 < c → Going ws l c (l + 8) 0
+pub going-start : (ws : List ℕ) (l c : ℕ) → 0 < c → Going ws l c (l + 8) 0
 going-start ws l c h = record { within = omega arith; ends = omega arith; done = λ j s. absurd (omega arith) }
 
 module _ {ws table : List ℕ} {l c e k : ℕ} (g : Windowed ws l c table) (h : Going ws l c e k) where
@@ -171,7 +171,7 @@ module _ {ws table : List ℕ} {l c e k : ℕ} (g : Windowed ws l c table) (h : 
       says-for (window-at r m (mask-some m (g .table-is) (omega arith)) (omega arith) w)
       (λ v j u. joined m v j (omega arith)) (λ v. parted m c (omega arith) v)
 
--- ---- the labels of a slot, in each of three ways
+-- ---- the labels of a slot, in each of two ways
 
 -- the pages from p on, c of them, are there and carry the logical pages from l on
 pub record Labelled (spare : List ℕ) (l p c : ℕ) : Type 0 where
@@ -184,6 +184,7 @@ Reach near pages = (p : ℕ) → p < near → p + 264 ≤ pages
 
 -- what they are tested on
 pub record HomeGiven (spare : List ℕ) (near : ℕ) (table : List ℕ) (l c : ℕ) : Type 0 where
+  pub some : 0 < c
   pub few : c ≤ 256
   pub low : l < 2147483648
   pub reach : Reach near (length spare)
@@ -207,8 +208,3 @@ module _ {spare table : List ℕ} {near l p c : ℕ} (h : HomeGiven spare near t
       let q = part-mid p (p + c + 8) (c + 8) spare (omega arith) (omega (arith, h .reach p u, h .few)) in
       labels-said r (omega (arith, h .reach p u, h .few))
       (says-for s (λ w k v. sym (q .at k (omega arith)) ∙ w k v) (λ w k v. q .at k (omega arith) ∙ w k v))
-
-  pub home-few : (r : Bool) → p < near → c ≤ 8 → Masked (take (p + 8 - p) (drop p spare)) (take (8 - c + 8 - (8 - c)) (drop (8 - c) table)) (l + 8) r → Says r (Labelled spare l p c)
-  home-few r u v s =
-      labels-said r (omega (arith, h .reach p u))
-      (window-says spare p l (l + 8) c r (omega (arith, h .reach p u)) refl (mask-some c (h .table-is) v) v s)

@@ -58,7 +58,7 @@ fn window_ok(ws: &[u32], mask: &[u32], e: u32) -> bool
     off == 0
 }
 
-// The first c words, of which there are more than W and W others behind them, are l, l + 1, ..
+// The first c words, of which there is one and W others behind them, are l, l + 1, ..
 fn windows_ok(ws: &[u32], l: u32, c: usize, table: &[u32]) -> bool
     requires { ⌜ Windowed (now ws) l c (now table) ⌝ }
     ensures { λ r. ⌜ Says r ((k : ℕ) → k < c → getD (now (ws .entry)) k 0 ≡ l + k) ⌝ }
@@ -90,9 +90,5 @@ pub fn home_ok(spare: &[u32], near: usize, table: &[u32], l: u32, p: u32, c: u32
         }
         return words::all_rise(&spare[from..to], l);
     }
-    if many > W {
-        return windows_ok(&spare[from..to + W], l, many, table);
-    }
-    let r = W - many;
-    window_ok(&spare[from..from + W], &table[r..r + W], l + (W as u32))
+    windows_ok(&spare[from..to + W], l, many, table)
 }
