@@ -109,11 +109,11 @@ compared-end {ws} {mask} {e} {off} {n} h s = record {
       (λ k u f. by-cases (decLt k m) (λ v. under-in ws e m k v ∙ eq-eqb (getD ws k 0) (e - (8 - k)) (f v)) (λ v. under-out ws e m k (omega arith)));
 }
 
--- a window from a on of which the first m words count
-window-says : {mask : List ℕ} (ws : List ℕ) (a l e m : ℕ) (r : Bool) → a + 8 ≤ length ws → e ≡ l + 8 → Mask mask m → m ≤ 8
-    → Masked (take (a + 8 - a) (drop a ws)) mask e r → Says r ((k : ℕ) → k < m → getD ws (a + k) 0 ≡ l + k)
-window-says ws a l e m r h i g few s =
-    let p = part-mid a (a + 8) 8 ws refl h in
+-- a window from a up to b of which the first m words count
+window-says : {mask : List ℕ} (ws : List ℕ) (a b l e m : ℕ) (r : Bool) → b ≡ a + 8 → b ≤ length ws → e ≡ l + 8 → Mask mask m → m ≤ 8
+    → Masked (take (b - a) (drop a ws)) mask e r → Says r ((k : ℕ) → k < m → getD ws (a + k) 0 ≡ l + k)
+window-says ws a b l e m r to h i g few s =
+    let p = part-mid a b 8 ws to h in
     let at : (k : ℕ) → k < 8 → e - (8 - k) ≡ l + k = λ k u. omega arith in
     says-for (s .said m g)
     (λ w k u. sym (p .at k (omega arith)) ∙ w k (omega arith) u ∙ at k (omega arith))
@@ -121,75 +121,78 @@ window-says ws a l e m r h i g few s =
 
 -- ---- windows one after the other
 
-pub record Windowed (ws : List ℕ) (l c : ℕ) (table : List ℕ) : Type 0 where
-  pub some : 0 < c
-  pub room : c + 8 ≤ length ws
-  pub low : l + c + 8 ≤ none
+pub record Windowed (ws : List ℕ) (l : ℕ) (table : List ℕ) : Type 0 where
+  pub more : 8 < length ws
+  pub low : l + length ws + 8 ≤ none
   pub table-is : Table table
 
 -- the windows before k are right, and the next ends at e
-pub record Going (ws : List ℕ) (l c e k : ℕ) : Type 0 where
-  pub within : k < c
+pub record Going (ws : List ℕ) (l e k : ℕ) : Type 0 where
+  pub within : k < length ws
   pub ends : e ≡ l + k + 8
   pub done : (j : ℕ) → j < k → getD ws j 0 ≡ l + j
 
-pub going-start : (ws : List ℕ) (l c : ℕ) → 0 < c → Going ws l c (l + 8) 0
-going-start ws l c h = record { within = omega arith; ends = omega arith; done = λ j s. absurd (omega arith) }
+pub going-start : (ws : List ℕ) (l : ℕ) → 8 < length ws → Going ws l (l + 8) 0
+going-start ws l h = record { within = omega arith; ends = omega arith; done = λ j s. absurd (omega arith) }
 
-module _ {ws table : List ℕ} {l c e k : ℕ} (g : Windowed ws l c table) (h : Going ws l c e k) where
-  window-at : {mask : List ℕ} (r : Bool) (m : ℕ) → Mask mask m → m ≤ 8 → Masked (take (k + 8 - k) (drop k ws)) mask e r
-      → Says r ((j : ℕ) → j < m → getD ws (k + j) 0 ≡ l + k + j)
-  window-at r m a b s = window-says ws k (l + k) e m r (omega (arith, g .room, h .within)) (h .ends) a b s
+module _ {ws table : List ℕ} {l e k : ℕ} (g : Windowed ws l table) (h : Going ws l e k) where
+  abbrev c : ℕ
+  c = length ws
 
-  -- those behind k, and those before it
-  joined : (m : ℕ) → ((j : ℕ) → j < m → getD ws (k + j) 0 ≡ l + k + j) → (j : ℕ) → j < k + m → getD ws j 0 ≡ l + j
-  joined m w j s =
+  window-at : (a b d : ℕ) (r : Bool) → b ≡ a + 8 → b ≤ c → d ≡ l + a + 8 → Masked (take (b - a) (drop a ws)) (take 8 table) d r
+      → Says r ((j : ℕ) → j < 8 → getD ws (a + j) 0 ≡ l + a + j)
+  window-at a b d r to u i s = window-says ws a b (l + a) d 8 r to u i (mask-all (g .table-is)) (omega arith) s
+
+  -- a window's words and those before k, among which it may begin
+  joined : (a : ℕ) → a ≤ k → ((j : ℕ) → j < 8 → getD ws (a + j) 0 ≡ l + a + j) → (j : ℕ) → j < a + 8 → getD ws j 0 ≡ l + j
+  joined a i w j s =
       by-cases (decLt j k) (h .done j)
       (λ u.
-      let at : k + (j - k) ≡ j = omega arith in
-      let to : l + k + (j - k) ≡ l + j = omega arith in
-      sym (ap (λ (i : ℕ). getD ws i 0) at) ∙ w (j - k) (omega arith) ∙ to)
+      let at : a + (j - a) ≡ j = omega arith in
+      let to : l + a + (j - a) ≡ l + j = omega arith in
+      sym (ap (λ (x : ℕ). getD ws x 0) at) ∙ w (j - a) (omega arith) ∙ to)
 
-  parted : (m d : ℕ) → k + m ≤ d → ((j : ℕ) → j < d → getD ws j 0 ≡ l + j) → (j : ℕ) → j < m → getD ws (k + j) 0 ≡ l + k + j
-  parted m d i w j s = let to : l + (k + j) ≡ l + k + j = omega arith in w (k + j) (omega arith) ∙ to
+  parted : (a : ℕ) → a + 8 ≤ c → ((j : ℕ) → j < c → getD ws j 0 ≡ l + j) → (j : ℕ) → j < 8 → getD ws (a + j) 0 ≡ l + a + j
+  parted a i w j s = let to : l + (a + j) ≡ l + a + j = omega arith in w (a + j) (omega arith) ∙ to
 
   pub going-no : (r : Bool) → k + 8 < c → not r ≡ true → Masked (take (k + 8 - k) (drop k ws)) (take 8 table) e r → Says false ((j : ℕ) → j < c → getD ws j 0 ≡ l + j)
-  going-no r s n w = says-no (λ v. told-no r (window-at r 8 (mask-all (g .table-is)) (omega arith) w) n (parted 8 c (omega arith) v))
+  going-no r s n w = says-no (λ v. told-no r (window-at k (k + 8) e r refl (omega arith) (h .ends) w) n (parted k (omega arith) v))
 
-  pub going-step : (r : Bool) → k + 8 < c → not r ≡ false → Masked (take (k + 8 - k) (drop k ws)) (take 8 table) e r → Going ws l c (e + 8) (k + 8)
+  pub going-step : (r : Bool) → k + 8 < c → not r ≡ false → Masked (take (k + 8 - k) (drop k ws)) (take 8 table) e r → Going ws l (e + 8) (k + 8)
   going-step r s n w = record {
     within = s;
     ends = omega (arith, h .ends);
-    done = joined 8 (told-yes r (window-at r 8 (mask-all (g .table-is)) (omega arith) w) n);
+    done = joined k (omega arith) (told-yes r (window-at k (k + 8) e r refl (omega arith) (h .ends) w) n);
   }
 
-  pub going-end : (r : Bool) → c ≤ k + 8 → Masked (take (k + 8 - k) (drop k ws)) (take (8 - (c - k) + 8 - (8 - (c - k))) (drop (8 - (c - k)) table)) e r
-      → Says r ((j : ℕ) → j < c → getD ws j 0 ≡ l + j)
+  pub going-end : (r : Bool) → c ≤ k + 8 → Masked (take (c - (c - 8)) (drop (c - 8) ws)) (take 8 table) (l + c) r → Says r ((j : ℕ) → j < c → getD ws j 0 ≡ l + j)
   going-end r s w =
-      let m = c - k in
-      let all : k + m ≡ c = omega (arith, h .within) in
-      says-for (window-at r m (mask-some m (g .table-is) (omega arith)) (omega arith) w)
-      (λ v j u. joined m v j (omega arith)) (λ v. parted m c (omega arith) v)
+      let more = g .more in
+      says-for (window-at (c - 8) c (l + c) r (omega arith) (omega arith) (omega arith) w)
+      (λ v j u. joined (c - 8) (omega arith) v j (omega arith)) (λ v. parted (c - 8) (omega arith) v)
 
--- ---- the labels of a slot, in each of two ways
+-- ---- the labels of a slot, in each of three ways
 
 -- the pages from p on, c of them, are there and carry the logical pages from l on
 pub record Labelled (spare : List ℕ) (l p c : ℕ) : Type 0 where
   pub ends : p + c ≤ length spare
   pub each : (k : ℕ) → k < c → getD spare (p + k) none ≡ l + k
 
--- behind a page before `near` 256 pages and a window more are there
+-- from a page before `near` on there are 256 pages
 abbrev pub Reach : ℕ → ℕ → Type 0
-Reach near pages = (p : ℕ) → p < near → p + 264 ≤ pages
+Reach near pages = (p : ℕ) → p < near → p + 256 ≤ pages
 
 -- what they are tested on
 pub record HomeGiven (spare : List ℕ) (near : ℕ) (table : List ℕ) (l c : ℕ) : Type 0 where
-  pub some : 0 < c
   pub few : c ≤ 256
   pub low : l < 2147483648
   pub reach : Reach near (length spare)
   pub high : length spare ≤ 262144
   pub table-is : Table table
+
+-- the labels themselves, as they are lent
+abbrev labelsOf : List ℕ → ℕ → ℕ → List ℕ
+labelsOf spare p c = take (p + c - p) (drop p spare)
 
 module _ {spare table : List ℕ} {near l p c : ℕ} (h : HomeGiven spare near table l c) where
   -- the labels read as the code reads them
@@ -199,12 +202,20 @@ module _ {spare table : List ℕ} {near l p c : ℕ} (h : HomeGiven spare near t
       (λ w. record { ends = u; each = λ k v. word-at spare (p + k) none 0 (omega arith) ∙ w k v })
       (λ w k v. word-at spare (p + k) 0 none (omega arith) ∙ w .each k v)
 
-  pub home-last : (r : Bool) → p + c ≤ length spare → r ≡ all (length (take (p + c - p) (drop p spare))) (λ k. eqb (getD (take (p + c - p) (drop p spare)) k 0) (l + k))
-      → Says r (Labelled spare l p c)
-  home-last r u s = labels-said r u (rise-says (part-mid p (p + c) c spare refl u) r l 0 s)
+  own-part : p + c ≤ length spare → Part (labelsOf spare p c) spare p c
+  own-part u = part-mid p (p + c) c spare refl u
 
-  pub home-many : (r : Bool) → p < near → Says r ((k : ℕ) → k < c → getD (take (p + c + 8 - p) (drop p spare)) k 0 ≡ l + k) → Says r (Labelled spare l p c)
+  pub home-last : (r : Bool) → p + c ≤ length spare → r ≡ all (length (labelsOf spare p c)) (λ k. eqb (getD (labelsOf spare p c) k 0) (l + k)) → Says r (Labelled spare l p c)
+  home-last r u s = labels-said r u (rise-says (own-part u) r l 0 s)
+
+  pub home-many : (r : Bool) → p < near → Says r ((k : ℕ) → k < length (labelsOf spare p c) → getD (labelsOf spare p c) k 0 ≡ l + k) → Says r (Labelled spare l p c)
   home-many r u s =
-      let q = part-mid p (p + c + 8) (c + 8) spare (omega arith) (omega (arith, h .reach p u, h .few)) in
-      labels-said r (omega (arith, h .reach p u, h .few))
-      (says-for s (λ w k v. sym (q .at k (omega arith)) ∙ w k v) (λ w k v. q .at k (omega arith) ∙ w k v))
+      let ends : p + c ≤ length spare = omega (arith, h .reach p u, h .few) in
+      let q = own-part ends in
+      labels-said r ends
+      (says-for s (λ w k v. sym (q .at k v) ∙ w k (omega (arith, q .long))) (λ w k v. let i : k < c = omega (arith, q .long) in q .at k i ∙ w k i))
+
+  pub home-few : (r : Bool) → p < near → c ≤ 8 → Masked (take (p + 8 - p) (drop p spare)) (take (8 - c + 8 - (8 - c)) (drop (8 - c) table)) (l + 8) r → Says r (Labelled spare l p c)
+  home-few r u v s =
+      labels-said r (omega (arith, h .reach p u))
+      (window-says spare p (p + 8) l (l + 8) c r refl (omega (arith, h .reach p u)) refl (mask-some c (h .table-is) v) v s)

@@ -1,5 +1,5 @@
-// The labels of one slot, compared with its logical pages a window of W words at a time. The last window is masked, so that no label is left to a step
-// of its own: the mask is a part of a table of W ones and W zeros.
+// The labels of one slot, compared with its logical pages a window of W words at a time, so that no label is left to a step of its own: the window of a short
+// slot is masked, with a part of a table of W ones and W zeros, and the last window of a longer one ends where the slot does.
 ghost use mathlib.Core.Path.{_≡_};
 ghost use Prim.Native.Nat.{ℕ, _+_, _<_, _≤_};
 ghost use lib.ListN.{length, getD};
@@ -34,14 +34,14 @@ pub fn masks() -> [u32; 16]
     ]
 }
 
-// Behind a page before this one stand 256 pages and a window more, if there are so many.
+// From a page before this one on there are 256 pages: all of a slot's, and a window.
 pub fn near_of(pages: usize) -> usize
     ensures { λ r. ⌜ Reach r pages ⌝ }
 {
-    if pages < 264 {
+    if pages < 256 {
         return 0;
     }
-    pages - 264
+    pages - 256
 }
 
 // The words under the mask's ones are those that end before e: e - W, e - W + 1, .. Counted from the end no lane adds 0, and all of them are one vector.
@@ -58,25 +58,26 @@ fn window_ok(ws: &[u32], mask: &[u32], e: u32) -> bool
     off == 0
 }
 
-// The first c words, of which there is one and W others behind them, are l, l + 1, ..
-fn windows_ok(ws: &[u32], l: u32, c: usize, table: &[u32]) -> bool
-    requires { ⌜ Windowed (now ws) l c (now table) ⌝ }
-    ensures { λ r. ⌜ Says r ((k : ℕ) → k < c → getD (now (ws .entry)) k 0 ≡ l + k) ⌝ }
+// The words, of which there are more than W, are l, l + 1, .. The last window ends with them, and so may reach back over words that were compared already.
+fn windows_ok(ws: &[u32], l: u32, table: &[u32]) -> bool
+    requires { ⌜ Windowed (now ws) l (now table) ⌝ }
+    ensures { λ r. ⌜ Says r ((k : ℕ) → k < length (now (ws .entry)) → getD (now (ws .entry)) k 0 ≡ l + k) ⌝ }
 {
+    let len = ws.len();
     let mut e = l + (W as u32);
     let mut k: usize = 0;
-    while k + W < c {
+    while k + W < len {
         if !window_ok(&ws[k..k + W], &table[..W], e) {
             return false;
         }
         k += W;
         e += W as u32;
     }
-    let r = W - (c - k);
-    window_ok(&ws[k..k + W], &table[r..r + W], e)
+    let last = len - W;
+    window_ok(&ws[last..len], &table[..W], l + (len as u32))
 }
 
-// The pages from p on, c of them, are there and carry the logical pages from l on. Before page `near` no window reaches over the last page.
+// The pages from p on, c of them, are there and carry the logical pages from l on. Before page `near` neither a slot nor a window reaches over the last page.
 pub fn home_ok(spare: &[u32], near: usize, table: &[u32], l: u32, p: u32, c: u32) -> bool
     requires { ⌜ HomeGiven (now spare) near (now table) l c ⌝ }
     ensures { λ r. ⌜ Says r (Labelled (now (spare .entry)) l p c) ⌝ }
@@ -90,5 +91,9 @@ pub fn home_ok(spare: &[u32], near: usize, table: &[u32], l: u32, p: u32, c: u32
         }
         return words::all_rise(&spare[from..to], l);
     }
-    windows_ok(&spare[from..to + W], l, many, table)
+    if many > W {
+        return windows_ok(&spare[from..to], l, table);
+    }
+    let r = W - many;
+    window_ok(&spare[from..from + W], &table[r..r + W], l + (W as u32))
 }

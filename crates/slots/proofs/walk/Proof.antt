@@ -53,7 +53,6 @@ home-ok-requires c κs =
     let w = here (c .before) in
     let s = start w .pre in
     record {
-      some = g .some;
       few = omega (arith, g .inside, s .pages-high);
       low = g .low;
       reach = w .before .near-of .ensures;
