@@ -39,7 +39,7 @@ pub fn walk(ext: &[u32], spare: &[u32], used: usize, n: u32, tally: &mut [u32]) 
     ensures { λ r. ⌜ Walked r (now (ext .entry)) (now (spare .entry)) (now (tally .exit)) used n ⌝ }
 {
     let table = windows::masks();
-    let near = windows::near_of(spare.len());
+    let near = windows::near_of(spare.len(), n as usize);
     let mut i: usize = 0;
     let mut lo: u32 = 0;
     let mut q: u32 = 4294967295;

@@ -178,15 +178,17 @@ pub record Labelled (spare : List ℕ) (l p c : ℕ) : Type 0 where
   pub ends : p + c ≤ length spare
   pub each : (k : ℕ) → k < c → getD spare (p + k) none ≡ l + k
 
--- from a page before `near` on there are 256 pages
-abbrev pub Reach : ℕ → ℕ → Type 0
-Reach near pages = (p : ℕ) → p < near → p + 256 ≤ pages
+-- from a page before `near` on there are n pages, and a window
+pub record Reach (near n pages : ℕ) : Type 0 where
+  pub slot : (p : ℕ) → p < near → p + n ≤ pages
+  pub window : (p : ℕ) → p < near → p + 8 ≤ pages
 
--- what they are tested on
+-- what they are tested on: a slot of at most n pages
 pub record HomeGiven (spare : List ℕ) (near : ℕ) (table : List ℕ) (l c : ℕ) : Type 0 where
-  pub few : c ≤ 256
+  pub n : ℕ
+  pub few : c ≤ n
   pub low : l < 2147483648
-  pub reach : Reach near (length spare)
+  pub reach : Reach near n (length spare)
   pub high : length spare ≤ 262144
   pub table-is : Table table
 
@@ -210,12 +212,19 @@ module _ {spare table : List ℕ} {near l p c : ℕ} (h : HomeGiven spare near t
 
   pub home-many : (r : Bool) → p < near → Says r ((k : ℕ) → k < length (labelsOf spare p c) → getD (labelsOf spare p c) k 0 ≡ l + k) → Says r (Labelled spare l p c)
   home-many r u s =
-      let ends : p + c ≤ length spare = omega (arith, h .reach p u, h .few) in
+      let ends : p + c ≤ length spare = omega (arith, h .reach .slot p u, h .few) in
       let q = own-part ends in
       labels-said r ends
       (says-for s (λ w k v. sym (q .at k v) ∙ w k (omega (arith, q .long))) (λ w k v. let i : k < c = omega (arith, q .long) in q .at k i ∙ w k i))
 
   pub home-few : (r : Bool) → p < near → c ≤ 8 → Masked (take (p + 8 - p) (drop p spare)) (take (8 - c + 8 - (8 - c)) (drop (8 - c) table)) (l + 8) r → Says r (Labelled spare l p c)
   home-few r u v s =
-      labels-said r (omega (arith, h .reach p u))
-      (window-says spare p (p + 8) l (l + 8) c r refl (omega (arith, h .reach p u)) refl (mask-some c (h .table-is) v) v s)
+      labels-said r (omega (arith, h .reach .window p u))
+      (window-says spare p (p + 8) l (l + 8) c r refl (omega (arith, h .reach .window p u)) refl (mask-some c (h .table-is) v) v s)
+
+  -- a long slot's labels may be compared in windows
+  pub home-windowed : p < near → 8 < c → Windowed (labelsOf spare p c) l table
+  home-windowed u v =
+      let ends : p + c ≤ length spare = omega (arith, h .reach .slot p u, h .few) in
+      let q = own-part ends in
+      record { more = omega (arith, q .long); low = omega (arith, q .long, h .low, h .high); table-is = h .table-is }

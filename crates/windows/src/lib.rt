@@ -1,7 +1,7 @@
 // The labels of one slot, compared with its logical pages a window of W words at a time, so that no label is left to a step of its own: the window of a short
 // slot is masked, with a part of a table of W ones and W zeros, and the last window of a longer one ends where the slot does.
 ghost use mathlib.Core.Path.{_≡_};
-ghost use Prim.Native.Nat.{ℕ, _+_, _<_, _≤_};
+ghost use Prim.Native.Nat.{ℕ, _+_, _<_, _≤_, max};
 ghost use lib.ListN.{length, getD};
 ghost use Rattle.words.specs.Says.{Says};
 ghost use Rattle.windows.specs.Window.{Table, Masked, Windowed, Reach, HomeGiven, Labelled};
@@ -34,14 +34,24 @@ pub fn masks() -> [u32; 16]
     ]
 }
 
-// From a page before this one on there are 256 pages: all of a slot's, and a window.
-pub fn near_of(pages: usize) -> usize
-    ensures { λ r. ⌜ Reach r pages ⌝ }
+fn larger(a: usize, b: usize) -> usize
+    ensures { λ r. ⌜ r ≡ max a b ⌝ }
 {
-    if pages < 256 {
+    if a < b {
+        return b;
+    }
+    a
+}
+
+// From a page before this one on there are N pages and a window: no slot there reaches over the last page, and no window.
+pub fn near_of(pages: usize, n: usize) -> usize
+    ensures { λ r. ⌜ Reach r n pages ⌝ }
+{
+    let most = larger(n, W);
+    if pages < most {
         return 0;
     }
-    pages - 256
+    pages - most
 }
 
 // The words under the mask's ones are those that end before e: e - W, e - W + 1, .. Counted from the end no lane adds 0, and all of them are one vector.
@@ -77,7 +87,7 @@ fn windows_ok(ws: &[u32], l: u32, table: &[u32]) -> bool
     window_ok(&ws[last..len], &table[..W], l + (len as u32))
 }
 
-// The pages from p on, c of them, are there and carry the logical pages from l on. Before page `near` neither a slot nor a window reaches over the last page.
+// The pages from p on, c of them, are there and carry the logical pages from l on. Before page `near` neither they nor a window reach over the last page.
 pub fn home_ok(spare: &[u32], near: usize, table: &[u32], l: u32, p: u32, c: u32) -> bool
     requires { ⌜ HomeGiven (now spare) near (now table) l c ⌝ }
     ensures { λ r. ⌜ Says r (Labelled (now (spare .entry)) l p c) ⌝ }

@@ -53,7 +53,8 @@ home-ok-requires c κs =
     let w = here (c .before) in
     let s = start w .pre in
     record {
-      few = omega (arith, g .inside, s .pages-high);
+      n = start w .args .n;
+      few = omega (arith, g .inside);
       low = g .low;
       reach = w .before .near-of .ensures;
       high = omega (arith, s .spares, s .pages-high);
