@@ -13,6 +13,15 @@ fn every_word_and_field_of_small_states() -> Tried {
 }
 
 #[test]
+fn every_word_of_long_slots() -> Tried {
+    let calls = damaged::every_word_of_long_slots(Lent)?;
+    // Six values of each word in 19 states, and five calls for each.
+    let words = 3 * 40 + Block::WORDS * 6 + 6 * 20;
+    assert_eq!(calls, 6 * 19 * 5 * words as u64);
+    Ok(())
+}
+
+#[test]
 fn every_length_one_off() -> Tried {
     damaged::every_length_one_off(Lent)
 }

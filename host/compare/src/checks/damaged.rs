@@ -120,6 +120,25 @@ pub fn every_word_and_field_of_small_states<L: Layer + Clone>(layer: L) -> Tried
     Ok(calls)
 }
 
+/// Slots of every length up to a block of 20 pages, side by side and from other pages on
+/// each time: as many labels as fit one window, two and three, with and without room behind
+/// them. How many calls were compared.
+pub fn every_word_of_long_slots<L: Layer + Clone>(layer: L) -> Tried<u64> {
+    let fresh = Request::Fresh { blocks: 6, pages: 20, logical: 80, slots: 40 };
+    let mut calls = 0;
+    for first in 1..=19 {
+        let counts = [first, 20 - first, 20, 7, 13];
+        let mut requests = vec![fresh];
+        let mut start = 80;
+        for (number, count) in (1..).zip(counts) {
+            start -= count;
+            requests.push(Request::Write { number, start, count });
+        }
+        calls += each_word(&History::of(layer.clone(), &requests)?)?;
+    }
+    Ok(calls)
+}
+
 /// Each buffer a word shorter, and a word longer.
 fn each_one_off() -> impl Iterator<Item = (Buffer, bool)> {
     Buffer::ALL.into_iter().flat_map(|buffer| [(buffer, false), (buffer, true)])
