@@ -10,6 +10,7 @@ ghost use Rattle.rules.specs.Calls.{over};
 ghost use Rattle.words.specs.Store.{stored};
 ghost use Rattle.choosing.specs.Stale.{staleWord};
 ghost use Rattle.choosing.specs.Covered.{covered};
+ghost use Rattle.choosing.specs.Over.{Elsewhere};
 ghost use Rattle.choosing.specs.Ranks.{Ranks, rises, markedIn, Marks, sums};
 ghost use Rattle.choosing.specs.Sources.{livePages};
 
@@ -55,6 +56,35 @@ fn mark_slot(marks: &mut [u32], ext: &[u32], i: usize, n: u32, v: u32)
     words::fill_with(&mut marks[from..from + c], 1);
 }
 
+// Of the eight slots in these words 8 where none lies in block v, or 0. There is no exit, so that all are tested at once.
+fn free_of(ws: &[u32], n: u32, v: u32) -> usize
+    requires { ⌜ (24 ≤ length (now ws)) × (1 ≤ n) × (v * n + n ≤ none) ⌝ }
+    ensures { λ r. ⌜ (r ≤ 8) × Elsewhere (now (ws .entry)) 0 r n v ⌝ }
+{
+    let mut free: usize = 8;
+    let mut k: usize = 0;
+    while k < 8 {
+        let at = 3 * k;
+        if std::num::wrapping_sub_u32(ws[at + 1], v * n) < n {
+            free = 0;
+        }
+        k += 1;
+    }
+    free
+}
+
+// How many slots from slot i on may be passed over: eight where none of them lies in block v, or none.
+pub fn passed_over(ext: &[u32], used: usize, i: usize, n: u32, v: u32) -> usize
+    requires { ⌜ (3 * used ≤ length (now ext)) × (i ≤ used) × (1 ≤ n) × (v * n + n ≤ none) ⌝ }
+    ensures { λ r. ⌜ (i + r ≤ used) × Elsewhere (now (ext .entry)) i r n v ⌝ }
+{
+    if used < i + 8 {
+        return 0;
+    }
+    let at = 3 * i;
+    free_of(&ext[at..at + 24], n, v)
+}
+
 // Ones at the offsets of the mapped pages of block v.
 fn mark_slots(marks: &mut [u32], ext: &[u32], used: usize, n: u32, v: u32)
     requires { ⌜ (3 * used ≤ length (now ext)) × (1 ≤ n) × (n ≤ length (now marks)) × (v * n + n ≤ none) ⌝ }
@@ -64,8 +94,13 @@ fn mark_slots(marks: &mut [u32], ext: &[u32], used: usize, n: u32, v: u32)
 {
     let mut i: usize = 0;
     while i < used {
-        mark_slot(marks, ext, i, n, v);
-        i += 1;
+        let free = passed_over(ext, used, i, n, v);
+        if free > 0 {
+            i += free;
+        } else {
+            mark_slot(marks, ext, i, n, v);
+            i += 1;
+        }
     }
 }
 
