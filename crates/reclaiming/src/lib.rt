@@ -127,9 +127,9 @@ fn take_slot(ext: &mut [u32], w: usize, i: usize, n: u32, v: u32, r: u32, ranks:
 // How many slots from slot i on stay where they are: those that lie in other blocks than v, as long as no slot before them has come down.
 fn stay(ext: &[u32], w: usize, used: usize, i: usize, n: u32, v: u32) -> usize
     requires { ⌜ (3 * used ≤ length (now ext)) × (i ≤ used) × (1 ≤ n) × (v * n + n ≤ none) ⌝ }
-    ensures { λ k. ⌜ (i + k ≤ used) × (0 < k → i ≤ w) × Elsewhere (now (ext .entry)) i k n v ⌝ }
+    ensures { λ k. ⌜ (i + k ≤ used) × (0 < k → w ≡ i) × Elsewhere (now (ext .entry)) i k n v ⌝ }
 {
-    if w < i {
+    if w != i {
         return 0;
     }
     choosing::passed_over(ext, used, i, n, v)

@@ -9,10 +9,10 @@ use Rattle.choosing.proofs.free_of.Statement.{statement}
 use Rattle.choosing.proofs.free_of.Tie as tie
 
 abbrev Inv-loop : tie.InvT-loop
-Inv-loop ws n v free₀ k₀ free k = (k ≤ 8) × (free ≤ 8) × Tested ws n v free k
+Inv-loop ws n v least₀ k₀ least k = (k ≤ 16) × Tested ws n v least k
 
 abbrev μ-loop : tie.MeasureT-loop
-μ-loop ws n v free₀ k₀ free k = 8 - k
+μ-loop ws n v least₀ k₀ least k = 16 - k
 
 abbrev here : tie.After-wrapping-sub-u32 Inv-loop μ-loop → tie.At-loop Inv-loop μ-loop
 here w = w .before .before .before
@@ -33,21 +33,21 @@ loop-again c =
     let w = c .before in
     let l = here w in
     let o = l .loop in
-    let a = start l .args in (
+    let a = start l .args in
+    let r = w .wrapping-sub-u32 .result in (
       search needs,
-      ⊎-elim (λ t. omega arith) (λ t. omega arith) (c .if1 .came),
       ⊎-elim
-          (λ t. rw (t .1) (λ j h s. absurd (omega arith)))
-          (λ t. rw (t .1) (tested-more (a .ws .now) (a .n) (a .v) (o .free) (o .k) (w .wrapping-sub-u32 .result) (far w) (omega arith) (o .inv .2)))
+          (λ t. rw (t .1) (tested-more (a .ws .now) (a .n) (a .v) (o .least) r (o .k) r (omega arith) (omega arith) (far w) (o .inv .1)))
+          (λ t. rw (t .1) (tested-more (a .ws .now) (a .n) (a .v) (o .least) (o .least) (o .k) r (omega arith) (omega arith) (far w) (o .inv .1)))
           (c .if1 .came),
     )
 
-returns : tie.Need-returns Inv-loop μ-loop
-returns c = (search needs, λ j h. c .before .loop .inv .2 j (omega arith) h)
+returns-2 : tie.Need-returns-2 Inv-loop μ-loop
+returns-2 c = (search needs, λ j h. c .before .before .loop .inv .1 (omega arith) j (omega arith))
 
 pub free-of-spec : {M : Type 1} → statement M
 free-of-spec =
     tie.close
-    (tie.spec Inv-loop μ-loop (λ c. (search needs, search needs, λ j h. absurd (omega arith))) (λ c. search needs) (λ c. search needs)
+    (tie.spec Inv-loop μ-loop (λ c. (search needs, λ h j s. absurd (omega arith))) (λ c. search needs) (λ c. search needs)
     (λ c. search needs) (λ c. search needs) (λ c. search needs) (λ c κs. search needs) (λ c. search needs) (λ c. search needs)
-    loop-again returns)
+    loop-again (λ c. (search needs, λ j h. absurd (omega arith))) returns-2)

@@ -45,7 +45,7 @@ loop-again c =
     let o = l .loop in
     let s = start l in
     let a = s .args in
-    let e : o .w ≡ o .i = omega (arith, o .inv .2 .few, k .ensures .1 (omega arith)) in
+    let e : o .w ≡ o .i = k .ensures .1 (omega arith) in
     let packed = subst (λ (w : ℕ). Packed (to s) (a .n) (a .ext .now) (o .i) (o .ext) w) e (o .inv .2) in (
       search needs,
       search needs,
