@@ -1,7 +1,7 @@
 -- The rank of an offset: how many live offsets of the victim lie before it. Marks of one word an offset, and the sums of the marks before each.
 use Prim.Native.Nat.{ℕ, zero, suc, _+_, _*_, _-_, _/_, _%_, _<_, _≤_}
 use mathlib.Core.Bool.{Bool, true, false, cond, _||_, or-false}
-use mathlib.Core.Path.{_≡_, refl, sym, ap, _∙_}
+use mathlib.Core.Path.{_≡_, refl, sym, ap, _∙_, subst}
 use mathlib.Core.List.{List, [], _∷_}
 use mathlib.Core.Logic.{by-cases}
 use native.Mathlib.Omega.{arith}
@@ -23,6 +23,7 @@ use Rattle.laws.specs.Slots.{slots-more}
 use Rattle.words.specs.Store.{stored, stored-next, stored-read, stored-length}
 use Rattle.choosing.specs.Part.{part-filled}
 use Rattle.choosing.specs.Covered.{hasPage, covered, holds-true, holds-low, holds-high, holds-block, covered-more}
+use Rattle.choosing.specs.Over.{Elsewhere}
 
 -- the ranks of the offsets up to n, where live says which are live
 pub record Ranks (n : ℕ) (live : ℕ → Bool) (ranks : List ℕ) : Type 0 where
@@ -106,6 +107,16 @@ marks-more ws u n v ms ms′ s l m e o h =
     ap (λ (xs : List ℕ). getD xs o 0) e
     ∙ marked-at (slot ws u) n v ms s l o h (covered (slotsFrom ws 0 u) n v o) (m o h)
     ∙ ap one (sym (covered-more (slotsFrom ws 0 u) (slot ws u) n v o) ∙ ap (λ (es : List Extent). covered es n v o) (sym (slots-more ws 0 u u (omega arith))))
+
+-- slots that lie elsewhere have no marks
+pub marks-over : (ws : List ℕ) (u k n v : ℕ) (ms : List ℕ) → ((j : ℕ) → j < k → slot ws (u + j) .physical % n + slot ws (u + j) .count ≤ n) → n ≤ length ms
+    → Elsewhere ws u k n v → Marks ws u n v ms → Marks ws (u + k) n v ms
+marks-over ws u zero n v ms s l f m = let none : u ≡ u + 0 = omega arith in subst (λ (i : ℕ). Marks ws i n v ms) none m
+marks-over ws u (suc k) n v ms s l f m =
+    let next : u + k + 1 ≡ u + suc k = omega arith in
+    subst (λ (i : ℕ). Marks ws i n v ms) next
+    (marks-more ws (u + k) n v ms ms (s k (omega arith)) l (marks-over ws u k n v ms (λ j h. s j (omega arith)) l (λ j h. f j (omega arith)) m)
+    (sym (marked-else (slot ws (u + k)) n v ms (f k (omega arith)))))
 
 -- the part of the marks that is an extent's, from its offset o on, comes back filled with ones
 pub marked-put : (e : Extent) (n v o : ℕ) (ms ys : List ℕ) → e .physical / n ≡ v → e .physical % n ≡ o → o + e .count ≤ n → n ≤ length ms

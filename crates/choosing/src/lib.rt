@@ -10,8 +10,12 @@ ghost use Rattle.rules.specs.Calls.{over};
 ghost use Rattle.words.specs.Store.{stored};
 ghost use Rattle.choosing.specs.Stale.{staleWord};
 ghost use Rattle.choosing.specs.Covered.{covered};
+ghost use Rattle.choosing.specs.Over.{Elsewhere};
 ghost use Rattle.choosing.specs.Ranks.{Ranks, rises, markedIn, Marks, sums};
 ghost use Rattle.choosing.specs.Sources.{livePages};
+
+// Slots that are tested at a time.
+const W: usize = 16;
 
 pub fn stale_of(blk: &[u32], b: usize) -> u32
     requires { ⌜ (HasBlock (now blk) b) × (validWord (now blk) b ≤ fillWord (now blk) b) ⌝ }
@@ -55,6 +59,42 @@ fn mark_slot(marks: &mut [u32], ext: &[u32], i: usize, n: u32, v: u32)
     words::fill_with(&mut marks[from..from + c], 1);
 }
 
+// Of the W slots in these words W where none lies in block v, or 0. The least of their differences tells, without an exit: they are taken in vectors.
+fn free_of(ws: &[u32], n: u32, v: u32) -> usize
+    requires { ⌜ (48 ≤ length (now ws)) × (1 ≤ n) × (v * n + n ≤ none) ⌝ }
+    ensures { λ r. ⌜ (r ≤ 16) × Elsewhere (now (ws .entry)) 0 r n v ⌝ }
+{
+    let mut least: u32 = 4294967295;
+    let mut k: usize = 0;
+    while k < W {
+        let at = 3 * k;
+        let o = std::num::wrapping_sub_u32(ws[at + 1], v * n);
+        if o < least {
+            least = o;
+        }
+        k += 1;
+    }
+    if least < n {
+        return 0;
+    }
+    W
+}
+
+// How many slots from slot i on may be passed over: W where none of them lies in block v, or none. Only every W-th slot asks, so no slot is tested more than twice.
+pub fn passed_over(ext: &[u32], used: usize, i: usize, n: u32, v: u32) -> usize
+    requires { ⌜ (3 * used ≤ length (now ext)) × (i ≤ used) × (1 ≤ n) × (v * n + n ≤ none) ⌝ }
+    ensures { λ r. ⌜ (i + r ≤ used) × Elsewhere (now (ext .entry)) i r n v ⌝ }
+{
+    if i % W > 0 {
+        return 0;
+    }
+    if used < i + W {
+        return 0;
+    }
+    let at = 3 * i;
+    free_of(&ext[at..at + 3 * W], n, v)
+}
+
 // Ones at the offsets of the mapped pages of block v.
 fn mark_slots(marks: &mut [u32], ext: &[u32], used: usize, n: u32, v: u32)
     requires { ⌜ (3 * used ≤ length (now ext)) × (1 ≤ n) × (n ≤ length (now marks)) × (v * n + n ≤ none) ⌝ }
@@ -64,8 +104,13 @@ fn mark_slots(marks: &mut [u32], ext: &[u32], used: usize, n: u32, v: u32)
 {
     let mut i: usize = 0;
     while i < used {
-        mark_slot(marks, ext, i, n, v);
-        i += 1;
+        let free = passed_over(ext, used, i, n, v);
+        if free > 0 {
+            i += free;
+        } else {
+            mark_slot(marks, ext, i, n, v);
+            i += 1;
+        }
     }
 }
 

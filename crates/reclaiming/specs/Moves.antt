@@ -1,7 +1,7 @@
 -- What the slots must be for a pass that moves those of one block and leaves the others as they are; and that such a pass joins all that is to be joined.
 use Prim.Native.Nat.{ℕ, zero, suc, _+_, _*_, _/_, _%_, _<_, _≤_}
 use mathlib.Core.Bool.{false}
-use mathlib.Core.Path.{_≡_, refl, sym, ap, ap₂, _∙_}
+use mathlib.Core.Path.{_≡_, refl, sym, ap, ap₂, _∙_, subst}
 use mathlib.Core.List.{List, [], _∷_, _++_, map}
 use mathlib.Core.Logic.{by-cases}
 use native.Mathlib.Omega.{arith}
@@ -12,9 +12,10 @@ use Rattle.rules.specs.Extents.{none, extent, joinable, slot, slotsFrom}
 use Rattle.rules.specs.declared.Extent.{Extent}
 use Rattle.laws.specs.Norm.{norm, move}
 use Rattle.choosing.specs.Covered.{covered}
+use Rattle.choosing.specs.Over.{Elsewhere}
 use Rattle.choosing.specs.Ranks.{Ranks, Movable, ranks-movable}
 use Rattle.reclaiming.specs.Remapped.{rankedPage, place-block, place-else, other-block, push, push-behind}
-use Rattle.reclaiming.specs.Slot.{Ends, Apart, Packed, packed-slot, moved-more}
+use Rattle.reclaiming.specs.Slot.{Ends, slot-moved, Pushed, Apart, pushed-there, Packed, packed-slot, packed-step, moved-more}
 
 -- the slots of block v among u may go to block r
 pub record Moves (n v r : ℕ) (ws : List ℕ) (u : ℕ) (ranks : List ℕ) : Type 0 where
@@ -59,3 +60,17 @@ module _ (n v r : ℕ) (ws : List ℕ) (u : ℕ) (ranks : List ℕ) (m : Moves n
       ap₂ (push n) stand same
       ∙ push-behind n before last (slot ws (suc j)) (stays-apart j (suc j) refl l)
       ∙ sym (ap₂ (λ (es : List Extent) (x : Extent). es ++ x ∷ []) stand same)
+
+  -- slots that lie in other blocks, where none before them has come down
+  pub packed-over : (ws′ : List ℕ) (i k : ℕ) → i + k ≤ u → Elsewhere ws′ i k n v → Packed to n ws i ws′ i → Packed to n ws (i + k) ws′ (i + k)
+  packed-over ws′ i zero s f h = let none : i ≡ i + 0 = omega arith in subst (λ (j : ℕ). Packed to n ws j ws′ j) none h
+  packed-over ws′ i (suc k) s f h =
+      let j = i + k in
+      let next : j + 1 ≡ i + suc k = omega arith in
+      let e = slot ws′ j in
+      let before = packed-over ws′ i k (omega arith) (λ l t. f l (omega arith)) h in
+      let stands = pushed-there n ws′ j j refl (packed-apart ws′ j j before (omega arith)) in
+      subst (λ (l : ℕ). Packed to n ws l ws′ l) next
+      (packed-step to n ws ws′ ws′ j j (j + 1) before
+      (subst (λ (x : Extent). Pushed n ws′ j x ws′ (j + 1))
+      (slot-moved to ws′ j (e .physical) (sym (place-else n ranks v r (e .physical) (f k (omega arith))))) stands))

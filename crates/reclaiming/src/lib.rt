@@ -10,6 +10,7 @@ ghost use Rattle.rules.specs.Extents.{none, end, joinable, slot, slotsFrom};
 ghost use Rattle.laws.specs.Cells.{copiesInto, swept};
 ghost use Rattle.laws.specs.Norm.{move};
 ghost use Rattle.map.specs.Padded.{padded};
+ghost use Rattle.choosing.specs.Over.{Elsewhere};
 ghost use Rattle.choosing.specs.Ranks.{Movable};
 ghost use Rattle.reclaiming.specs.Remapped.{rankedPage, remapped};
 ghost use Rattle.reclaiming.specs.Slot.{joinsLast, Pushed, Apart};
@@ -123,6 +124,17 @@ fn take_slot(ext: &mut [u32], w: usize, i: usize, n: u32, v: u32, r: u32, ranks:
     w + 1
 }
 
+// How many slots from slot i on stay where they are: those that lie in other blocks than v, as long as no slot before them has come down.
+fn stay(ext: &[u32], w: usize, used: usize, i: usize, n: u32, v: u32) -> usize
+    requires { ⌜ (3 * used ≤ length (now ext)) × (i ≤ used) × (1 ≤ n) × (v * n + n ≤ none) ⌝ }
+    ensures { λ k. ⌜ (i + k ≤ used) × (0 < k → w ≡ i) × Elsewhere (now (ext .entry)) i k n v ⌝ }
+{
+    if w != i {
+        return 0;
+    }
+    choosing::passed_over(ext, used, i, n, v)
+}
+
 // The map afterwards, each slot taken from the left, and zeros where slots stand no longer: how many extents it has.
 pub fn move_map(ext: &mut [u32], used: usize, n: u32, v: u32, r: u32, ranks: &[u32]) -> usize
     requires { ⌜ Moves n v r (now ext) used (now ranks) ⌝ }
@@ -132,8 +144,14 @@ pub fn move_map(ext: &mut [u32], used: usize, n: u32, v: u32, r: u32, ranks: &[u
     let mut w: usize = 0;
     let mut i: usize = 0;
     while i < used {
-        w = take_slot(ext, w, i, n, v, r, ranks);
-        i += 1;
+        let k = stay(ext, w, used, i, n, v);
+        if k > 0 {
+            w += k;
+            i += k;
+        } else {
+            w = take_slot(ext, w, i, n, v, r, ranks);
+            i += 1;
+        }
     }
     words::fill_with(&mut ext[3 * w..3 * used], 0);
     w

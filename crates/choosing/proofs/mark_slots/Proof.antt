@@ -1,7 +1,7 @@
-use Prim.Native.Nat.{_-_, _≤_}
+use Prim.Native.Nat.{_+_, _-_, _≤_}
 use mathlib.Core.Path.{_≡_, refl}
 use lib.ListN.{length}
-use Rattle.choosing.specs.Ranks.{Marks, marks-none, marks-more}
+use Rattle.choosing.specs.Ranks.{Marks, marks-none, marks-more, marks-over}
 use borrow.Author.Needs.{needs}
 use native.Mathlib.Omega.{arith}
 use Rattle.choosing.proofs.mark_slots.Statement.{statement}
@@ -16,22 +16,38 @@ abbrev μ-loop : tie.MeasureT-loop
 abbrev start : tie.At-loop Inv-loop μ-loop → tie.Start Inv-loop μ-loop
 start w = w .before .before .before
 
+abbrev here : tie.After-passed-over Inv-loop μ-loop → tie.At-loop Inv-loop μ-loop
+here w = w .before .before
+
 loop-holds : tie.Need-loop-holds Inv-loop μ-loop
 loop-holds c =
     let s = c .before .before in
     (search needs, refl, marks-none _ _ _ (s .args .marks .now) (s .pre .1 .1))
 
-mark-slot-requires : tie.Need-mark-slot-requires Inv-loop μ-loop
-mark-slot-requires c κs =
-    let l = c .before .before in
-    ((omega arith, omega arith, omega arith, omega arith), start l .pre .1 .0 (l .loop .i) (omega arith))
-
 loop-again : tie.Need-loop-again Inv-loop μ-loop
 loop-again c =
+    let p = c .before in
+    let l = here p in
+    let o = l .loop in
+    let s = start l in
+    let a = s .args in (
+      search needs,
+      search needs,
+      marks-over (a .ext .now) (o .i) (p .passed-over .result) (a .n) (a .v) (o .marks)
+          (λ j h. s .pre .1 .0 (o .i + j) (omega arith)) (omega arith) (p .passed-over .ensures .1) (o .inv .2),
+    )
+
+mark-slot-requires : tie.Need-mark-slot-requires Inv-loop μ-loop
+mark-slot-requires c κs =
+    let l = here (c .before .before) in
+    ((omega arith, omega arith, omega arith, omega arith), start l .pre .1 .0 (l .loop .i) (omega arith))
+
+loop-again-2 : tie.Need-loop-again-2 Inv-loop μ-loop
+loop-again-2 c =
     let m = c .before .before in
-    let w = m .before .before .before in
-    let o = w .loop in
-    let s = start w in
+    let l = here (m .before .before .before) in
+    let o = l .loop in
+    let s = start l in
     let a = s .args in (
       search needs,
       search needs,
@@ -47,4 +63,5 @@ returns c =
 pub mark-slots-spec : {M : Type 1} → statement M
 mark-slots-spec =
     tie.close
-    (tie.spec Inv-loop μ-loop loop-holds mark-slot-requires (λ c. search needs) (λ c. search needs) loop-again (λ c. search needs) returns)
+    (tie.spec Inv-loop μ-loop loop-holds (λ c κs. search needs) (λ c. search needs) (λ c. search needs) loop-again mark-slot-requires
+    (λ c. search needs) (λ c. search needs) loop-again-2 (λ c. search needs) returns)

@@ -4,7 +4,7 @@ use lib.ListN.{length}
 use Rattle.reclaiming.specs.Remapped.{rankedPage}
 use Rattle.map.specs.Padded.{padded}
 use Rattle.reclaiming.specs.Slot.{Packed, packed-start, packed-ends, packed-step, packed-length, packed-end, moved-map}
-use Rattle.reclaiming.specs.Moves.{moves-movable, packed-apart}
+use Rattle.reclaiming.specs.Moves.{moves-movable, packed-apart, packed-over}
 use borrow.Author.Needs.{needs}
 use native.Mathlib.Omega.{arith}
 use Rattle.reclaiming.proofs.move_map.Statement.{statement}
@@ -23,15 +23,38 @@ to s = rankedPage (s .args .n) (s .args .ranks .now) (s .args .v) (s .args .r)
 abbrev start : tie.At-loop Inv-loop μ-loop → tie.Start Inv-loop μ-loop
 start w = w .before .before .before
 
+abbrev here : tie.After-stay Inv-loop μ-loop → tie.At-loop Inv-loop μ-loop
+here w = w .before .before .before
+
 loop-holds : tie.Need-loop-holds Inv-loop μ-loop
 loop-holds c =
     let s = c .before .before in
     let a = s .args in
     (search needs, refl, packed-start (to s) (a .n) (a .ext .now))
 
+stay-requires : tie.Need-stay-requires Inv-loop μ-loop
+stay-requires c κs =
+    let p = start (c .before .before) .pre in
+    (omega (arith, p .slots), omega arith, p .some, p .from)
+
+-- the slots that stay are as they were
+loop-again : tie.Need-loop-again Inv-loop μ-loop
+loop-again c =
+    let k = c .before .stay in
+    let l = here (c .before) in
+    let o = l .loop in
+    let s = start l in
+    let a = s .args in
+    let e : o .w ≡ o .i = k .ensures .1 (omega arith) in
+    let packed = subst (λ (w : ℕ). Packed (to s) (a .n) (a .ext .now) (o .i) (o .ext) w) e (o .inv .2) in (
+      search needs,
+      search needs,
+      rw e (packed-over (a .n) (a .v) (a .r) (a .ext .now) (a .used) (a .ranks .now) (s .pre) (o .ext) (o .i) (k .result) (k .ensures .0) (k .ensures .2) packed),
+    )
+
 take-slot-requires : tie.Need-take-slot-requires Inv-loop μ-loop
 take-slot-requires c κs =
-    let l = c .before .before in
+    let l = here (c .before .before) in
     let o = l .loop in
     let s = start l in
     let a = s .args in
@@ -47,10 +70,10 @@ take-slot-requires c κs =
       ),
     )
 
-loop-again : tie.Need-loop-again Inv-loop μ-loop
-loop-again c =
+loop-again-2 : tie.Need-loop-again-2 Inv-loop μ-loop
+loop-again-2 c =
     let t = c .before .before in
-    let l = t .before .before .before in
+    let l = here (t .before .before .before) in
     let o = l .loop in
     let s = start l in
     let a = s .args in (
@@ -78,6 +101,6 @@ returns c =
 pub move-map-spec : {M : Type 1} → statement M
 move-map-spec =
     tie.close
-    (tie.spec Inv-loop μ-loop loop-holds take-slot-requires (λ c. search needs) (λ c. search needs) loop-again
-    (λ c. search needs) (λ c. search needs) (λ c. search needs) (λ c. search needs) (λ c. search needs) (λ c. search needs)
-    (λ c κs. search needs) (λ c. search needs) returns)
+    (tie.spec Inv-loop μ-loop loop-holds stay-requires (λ c. search needs) (λ c. search needs) (λ c. search needs) loop-again
+    take-slot-requires (λ c. search needs) (λ c. search needs) loop-again-2 (λ c. search needs) (λ c. search needs) (λ c. search needs)
+    (λ c. search needs) (λ c. search needs) (λ c. search needs) (λ c κs. search needs) (λ c. search needs) returns)
