@@ -65,11 +65,12 @@
  *
  * What a call costs
  *   Every call but fresh tests the whole state, so it reads every lent word: 3M + 2B + B x N
- *   of them. On the largest device a report, which is hardly more than the test, took 1.2
- *   times as long as one sum over these words with few extents in use and 3.8 times with
- *   8,192. That sum is of 1.1 MB. On Arm, with the library recompiled, a read, a trim and a
- *   write of 48 pages took up to 1.1 times as long as a report there, a read of all pages up
- *   to 1.3 times and a reclaim up to 1.7 times (docs/BENCHMARK.md).
+ *   of them. On Arm, with the library recompiled, a report, which is hardly more than the
+ *   test, took as long on the largest device as one sum over these words with few extents in
+ *   use, and 2.1 to 4.1 times as long with 8,192, by how they lie. That sum is of 1.1 MB. A
+ *   read, a trim and a write of 48 pages took up to 1.1 times as long as a report there, a
+ *   read of all pages up to 1.5 times and a reclaim up to 1.1 times; on smaller devices a
+ *   read of all pages up to 1.9 times and a reclaim up to 1.3 times (docs/BENCHMARK.md).
  *
  * Crashes
  *   The library keeps nothing, so what a crash leaves is what the host made durable, and in
