@@ -8,10 +8,11 @@
  * Linking
  *   libutasiro.a, which `rt staticlib utasiro` writes to target/staticlib, for x86-64
  *   Linux, System V calling convention. `tools/install PREFIX` puts it, this header and
- *   utasiro.pc where `pkg-config --cflags --libs utasiro` finds them. It needs memcpy,
- *   memmove and memset, and nothing else: no other library, no allocator, no start-up
- *   code. It keeps nothing between calls, so calls on different devices may run at the
- *   same time; those on one device the caller must keep apart.
+ *   utasiro.pc where `pkg-config --cflags --libs utasiro` finds them. It needs memset; the
+ *   compiler may have a later version need memcpy and memmove too. It needs nothing else:
+ *   no other library, no allocator, no start-up code. It keeps nothing between calls, so
+ *   calls on different devices may run at the same time; those on one device the caller
+ *   must keep apart.
  *   Stack: 8 KB do for any call but utasiro_read_records, which takes 98,304 bytes more.
  *
  * What is lent
