@@ -32,7 +32,7 @@ pub slots-first : (ws : List ℕ) (i u : ℕ) → i < u → slotsFrom ws i (u - 
 unfolding slotsFrom
 slots-first ws i u h = let e : u - i ≡ suc (u - (i + 1)) = omega arith in ap (slotsFrom ws i) e
 
--- one slot more stands at the end
+-- slots and those behind them
 pub slots-join : (ws : List ℕ) (i u v k m : ℕ) → k ≡ u + v → m ≡ i + u → slotsFrom ws i k ≡ slotsFrom ws i u ++ slotsFrom ws m v
 unfolding slotsFrom
 slots-join ws i zero v k m e g =
@@ -43,6 +43,7 @@ slots-join ws i (suc u) v k m e g =
     let a : k ≡ suc (u + v) = omega arith in
     ap (slotsFrom ws i) a ∙ ap (λ (es : List Extent). slot ws i ∷ es) (slots-join ws (i + 1) u v (u + v) m refl (omega arith))
 
+-- one slot more stands at the end
 pub slots-more : (ws : List ℕ) (i u j : ℕ) → j ≡ i + u → slotsFrom ws i (u + 1) ≡ slotsFrom ws i u ++ slot ws j ∷ []
 unfolding slotsFrom
 slots-more ws i u j e = slots-join ws i u 1 (u + 1) j refl e

@@ -123,6 +123,9 @@ drop-same : (k r n x : ℕ) → n ≡ k + r → drop k (replicate n x) ≡ repli
 drop-same k r n x e =
     rw e (ap (drop k) (sym (replicate-append-replicate k r x)) ∙ drop-at (replicate k x) (replicate r x) k (length-replicate k x))
 
+words-slots : (new : List ℕ) (k : ℕ) → length new ≡ 3 * k → new ≡ flat (slotsFrom new 0 k)
+words-slots new k n = sym (flat-slots new k (omega arith) ∙ take-all (3 * k) new (omega arith))
+
 module _ (ws : List ℕ) (u : ℕ) (h : Holds ws u) where
   abbrev es : List Extent
   es = slotsFrom ws 0 u
@@ -189,9 +192,6 @@ module _ (ws : List ℕ) (u : ℕ) (h : Holds ws u) where
         ap₂ (λ (j : ℕ) (t : List ℕ). drop j t) to (back i s) ∙ drop-append-add moved (replicate (m - 3 * u) 0) (3 * k)
         ∙ drop-same (3 * k) (m - 3 * (u + k)) (m - 3 * u) 0 (omega arith)
 
-    words : new ≡ flat pieces
-    words = sym (flat-slots new k (omega arith) ∙ take-all (3 * k) new (omega arith))
-
     more : m - 3 * (u + k) ≡ m - 3 * length (spliced i pieces es)
     more = omega (arith, spliced-length i pieces es (omega (arith, size)), slots-length new 0 k, size)
 
@@ -201,7 +201,7 @@ module _ (ws : List ℕ) (u : ℕ) (h : Holds ws u) where
     unfolding spliced
     holds-insert ys zs e g =
         up-put (3 * i) room (3 * (i + k) - 3 * i) (3 * k) ws ys zs (omega arith) (omega (arith, lent-length)) (omega arith) e
-        ∙ ap₂ (λ (a b : List ℕ). a ++ b) (front i s) (ap₂ (λ (a b : List ℕ). a ++ b) (g ∙ words) (ap₂ (λ (a b : List ℕ). a ++ b) moved-up behind)
+        ∙ ap₂ (λ (a b : List ℕ). a ++ b) (front i s) (ap₂ (λ (a b : List ℕ). a ++ b) (g ∙ words-slots new k n) (ap₂ (λ (a b : List ℕ). a ++ b) moved-up behind)
         ∙ sym (append-assoc (flat pieces) moved rest) ∙ ap (λ (t : List ℕ). t ++ rest) (sym (flat-append pieces (drop i es))))
         ∙ laid-out (take i es) (pieces ++ drop i es) (m - 3 * (u + k)) more
 
@@ -211,7 +211,6 @@ module _ (ws : List ℕ) (u : ℕ) (h : Holds ws u) where
   holds-over a f new zs s n g =
       let p1 = slotsFrom new 0 f in
       let at : 3 * a + (3 * (a + f) - 3 * a) ≡ 3 * (a + f) = omega arith in
-      let words : zs ≡ flat p1 = g ∙ sym (flat-slots new f (omega arith) ∙ take-all (3 * f) new (omega arith)) in
       let rest : List ℕ = replicate (m - 3 * u) 0 in
       let behind : drop (3 * (a + f) - 3 * a) (drop (3 * a) ws) ≡ flat (drop (a + f) es) ++ rest =
       drop-drop (3 * (a + f) - 3 * a) (3 * a) ws ∙ ap (λ (j : ℕ). drop j ws) at ∙ back (a + f) s in
@@ -225,7 +224,7 @@ module _ (ws : List ℕ) (u : ℕ) (h : Holds ws u) where
         slots-length new 0 f,
         size,
       ) in
-      ap₂ (λ (x y : List ℕ). x ++ y) (front a (omega arith)) (ap₂ (λ (x y : List ℕ). x ++ y) words behind
+      ap₂ (λ (x y : List ℕ). x ++ y) (front a (omega arith)) (ap₂ (λ (x y : List ℕ). x ++ y) (g ∙ words-slots new f n) behind
       ∙ sym (append-assoc (flat p1) (flat (drop (a + f) es)) rest) ∙ ap (λ (t : List ℕ). t ++ rest) (sym (flat-append p1 (drop (a + f) es))))
       ∙ laid-out (take a es) (p1 ++ drop (a + f) es) (m - 3 * u) as-many
 
