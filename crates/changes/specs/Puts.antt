@@ -32,7 +32,7 @@ same-join n l p c (e ∷ es) = ap (λ (x : ℕ). one (joinable n e (extent l p 1
 
 module _ (l n : ℕ) (d : Device) (s : SoundDevice d) (some : 0 < n) (enough : n ≤ free d) (inside : l + n ≤ lines d) where
   opens : Opens l (targets l n d) d
-  opens = targets-open l n d s enough inside
+  opens = targets-open l n d enough
 
   size : l + length (targets l n d) ≡ l + n
   size = ap (λ (x : ℕ). l + x) (length-targets l n d)

@@ -153,6 +153,7 @@ module _ (k l n : ℕ) (out : List ℕ) (s : Lent) (z : Ready (Call.write k l n 
         pages-few = z .shape .sizes .n-high;
         valid = λ b p. omega (arith, valid-at b p, fill-at b, valid-stale (holed l n s) trim-sound b (omega (arith, same-blocks)));
         lines = omega (arith, inside-lines, lines-pages (z .shape .sizes), pages-high (z .shape .sizes));
+        some = z .taken .range .some;
         start = e .from ∙ (unfold deviceOf in ap (λ (fs : List ℕ). startBlock (s .head .pages) (s .head .reserve) fs n) (sym fills-are));
         room = omega (arith, alike-free (bare (s .head .blocks) (s .head .pages) (s .head .reserve) blk (s .spare)) (deviceOf s) alike, z .taken .pages);
         slots = omega (arith, ap length (alike-pieces l n (bare (s .head .blocks) (s .head .pages) (s .head .reserve) blk (s .spare)) (deviceOf s) alike), z .taken .room);

@@ -49,7 +49,7 @@ unfolding written puts places
 agrees-write k l n xs d f t s a h r =
     let bs = targets l n d in
     let size = length-targets l n d in
-    let v = targets-open l n d s r h in
+    let v = targets-open l n d r in
     let p = puts-all l n d s r h in
     let z = length-tabulate n (λ i. getD xs i 0) in
     let w = write-shows l bs (filledUp n xs) d f s (a .clean) v (omega arith) (omega arith) in

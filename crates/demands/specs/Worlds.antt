@@ -61,7 +61,7 @@ tasks-write k l n out xs d s t =
     let z = length-targets l n d in
     ap (programs l xs) (slots-flat (pieces l n d) (drop (length (flat (pieces l n d))) out))
     ∙ programs-runs (d .pages) l 0 l xs ps (omega arith)
-    (λ j h e. omega (arith, places-lt l bs d s (targets-open l n d s (t .pages) (t .range .inside)) (omega (arith, t .range .inside)) j (omega (arith, length-placed l n d))))
+    (λ j h e. omega (arith, places-lt l bs d s (targets-open l n d (t .pages)) (omega (arith, t .range .inside)) j (omega (arith, length-placed l n d))))
     ∙ ap (λ (m : ℕ). writes ps (tabulate m (λ j. getD xs (0 + j) 0))) (length-placed l n d)
     ∙ ap (writes ps) (tabulate-same n (λ j. getD xs (0 + j) 0) (λ j. getD xs j 0) (λ j h. let g : 0 + j ≡ j = omega arith in ap (λ (x : ℕ). getD xs x 0) g))
 
@@ -84,7 +84,7 @@ served-write k l n out xs d f t s a h =
     let bs = targets l n d in
     let z = length-targets l n d in
     let y = length-tabulate n (λ i. getD xs i 0) in
-    let v = targets-open l n d s (h .pages) (h .range .inside) in
+    let v = targets-open l n d (h .pages) in
     record {
       agrees = rw (writes-does (d .pages) (places l n d) (filledUp n xs) f) (agrees-write k l n xs d f t s a (h .range .inside) (h .pages));
       marks = writes-marks l bs (filledUp n xs) d v (omega arith);

@@ -114,7 +114,7 @@ module _ (k l n : ℕ) (d : Device) where
       omega (
         arith,
         over-valid c,
-        puts-valid l bs t ts (targets-open l n t ts f′ (omega arith)) (omega arith) c z,
+        puts-valid l bs t ts (targets-open l n t f′) (omega arith) c z,
         count-none (length bs) (λ i. eqb (at t (l + i) / d .pages) c) (λ i a.
             ne-eqb (at t (l + i) / d .pages) c (λ e. none-block d s c z
             (sym (ap (λ (x : ℕ). x / d .pages) (trimmed-in k l n d h (l + i) (omega arith) (omega arith))) ∙ e))),

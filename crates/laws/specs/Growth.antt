@@ -122,7 +122,7 @@ puts-bound l bs d s v h =
 
 module _ (l n : ℕ) (d : Device) (s : SoundDevice d) (f : n ≤ free d) (h : l + n ≤ lines d) where
   opens : Opens l (targets l n d) d
-  opens = targets-open l n d s f h
+  opens = targets-open l n d f
 
   -- each of its pages is a new one
   pub place-new : (i : ℕ) → i < n → New d (getD (places l n d) i none)
@@ -158,7 +158,7 @@ pub write-grows : (l n : ℕ) (d : Device) → SoundDevice d → 0 < n → n ≤
 unfolding puts pieces places
 write-grows l n d s z f h =
     let t = length-targets l n d in
-    rw t at (puts-grow l (targets l n d) d s (targets-open l n d s f h) (omega (arith, t)) (omega (arith, t)))
+    rw t at (puts-grow l (targets l n d) d s (targets-open l n d f) (omega (arith, t)) (omega (arith, t)))
 
 -- ---- the trim
 

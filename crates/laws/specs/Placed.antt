@@ -6,7 +6,7 @@ use mathlib.Core.Logic.{by-cases}
 use native.Mathlib.Omega.{arith}
 use native.Mathlib.Decide.{decLt, ℕ-discrete}
 use lib.Arith.{digits-lt, digits-div}
-use lib.ListN.{length, getD, set, replicate, length-set, List·getD-eq-default}
+use lib.ListN.{length, getD, set, length-set, List·getD-eq-default}
 use lib.Seq.{sets, getD-set-same, getD-set-other}
 use Rattle.rules.specs.Extents.{none}
 use Rattle.rules.specs.Device.{Device, blocks, lines, at, fill, label, room, free}
@@ -236,11 +236,3 @@ places-small l bs d s v h i =
     by-cases (decLt i (length bs))
     (λ t. omega (arith, places-lt l bs d s v h i t))
     (λ t. omega (arith, List·getD-eq-default (placesAt l bs d) none {n = i} (omega (arith, length-places l bs d))))
-
--- a block with room for all of them may take them all
-pub block-open : (b l n : ℕ) (d : Device) → SoundDevice d → b < blocks d → n ≤ room d b → l + n ≤ lines d → Opens l (replicate n b) d
-block-open b l zero d s h r f = tt
-block-open b l (suc n) d s h r f =
-    let v = room-open d b h (omega arith) in
-    let a : l < lines d = omega arith in
-    (v, block-open b (suc l) n (putAt b l d) (put-sound d s b v l a) (omega (arith, put-blocks d s b v l a)) (omega (arith, put-room d s b v l a)) (omega (arith, put-lines d s b v l a)))

@@ -2,15 +2,15 @@
 -- what one page more changes in them. By fills, the reserve and N alone; that the order of placement gives the same is shown in Order.
 use Prim.Native.Nat.{ℕ, zero, suc, _+_, _-_, _*_, _/_, _≤_, _<_, min}
 use mathlib.Core.Path.{_≡_, refl, sym, ap, ap₂, _∙_}
-use mathlib.Core.List.{List, [], _∷_}
+use mathlib.Core.List.{List, [], _∷_, _++_}
 use mathlib.Core.Bool.{cond}
 use mathlib.Core.Logic.{by-cases}
 use native.Mathlib.Omega.{arith}
 use native.Mathlib.Decide.{decLt}
 use borrow.Author.Tests.{eq-eqb, ne-eqb}
 use lib.Arith.{digits-div}
-use lib.Dec.{eqb, ltb}
-use lib.ListN.{length, getD, set}
+use lib.Dec.{eqb, ltb, leb}
+use lib.ListN.{length, getD, set, take, drop}
 use lib.Seq.{sets}
 use Rattle.rules.specs.Counting.{first, tabulate}
 use Rattle.rules.specs.Extents.{extent, joinable, join}
@@ -27,9 +27,13 @@ roomAt n reserve b f = cond (eqb b reserve) 0 (n - f)
 unfoldable pub taken : ℕ → ℕ → ℕ → ℕ → ℕ → ℕ
 taken n reserve b f want = min (roomAt n reserve b f) want
 
--- the block that `want` pages start with: the first that takes some of them, or the number of blocks where none does
+-- the first block that has room for m pages, or the number of blocks where none has
+unfoldable pub fitting : ℕ → ℕ → List ℕ → ℕ → ℕ
+fitting n reserve fs m = first (length fs) (λ b. leb m (roomAt n reserve b (getD fs b 0)))
+
+-- the block that `want` pages start with: the first that has room for all of them or, where none has, the first that has room for one
 unfoldable pub startBlock : ℕ → ℕ → List ℕ → ℕ → ℕ
-startBlock n reserve fs want = first (length fs) (λ b. ltb 0 (taken n reserve b (getD fs b 0) want))
+startBlock n reserve fs want = cond (ltb (fitting n reserve fs want) (length fs)) (fitting n reserve fs want) (fitting n reserve fs 1)
 
 -- an extent in front of others; of no pages it is none
 unfoldable pub withPiece : Extent → List Extent → List Extent
@@ -119,6 +123,25 @@ module _ (n reserve f : ℕ) (fs : List ℕ) (b l want : ℕ) where
       let m = taken n reserve b f want in
       listed-some (extent l (b * n + f) m) (spread n reserve fs (b + 1) (l + m) (want - m)) h
 
+-- of no pages there are no pieces
+pub spread-none : (n reserve : ℕ) (fs : List ℕ) (b l : ℕ) → spread n reserve fs b l 0 ≡ []
+unfolding spread
+spread-none n reserve [] b l = refl
+spread-none n reserve (f ∷ fs) b l =
+    spread-skip n reserve f fs b l 0 (omega (arith, taken-le n reserve b f 0)) ∙ spread-none n reserve fs (b + 1) l
+
+-- a block that has room for all of them takes all of them
+pub spread-whole : (n reserve f : ℕ) (fs : List ℕ) (b l want : ℕ) → 0 < want → want ≤ roomAt n reserve b f → spread n reserve (f ∷ fs) b l want ≡ extent l (b * n + f) want ∷ []
+unfolding taken
+spread-whole n reserve f fs b l want h r =
+    let m = taken n reserve b f want in
+    let e : m ≡ want = omega arith in
+    let z : want - want ≡ 0 = omega arith in
+    spread-some n reserve f fs b l want (omega arith)
+    ∙ ap (λ (x : ℕ). extent l (b * n + f) x ∷ spread n reserve fs (b + 1) (l + x) (want - x)) e
+    ∙ ap (λ (x : ℕ). extent l (b * n + f) want ∷ spread n reserve fs (b + 1) (l + want) x) z
+    ∙ ap (λ (es : List Extent). extent l (b * n + f) want ∷ es) (spread-none n reserve fs (b + 1) (l + want))
+
 -- how many pieces there are is no matter of the lines
 pub spread-length : (n reserve : ℕ) (fs : List ℕ) (b l l′ want : ℕ) → length (spread n reserve fs b l want) ≡ length (spread n reserve fs b l′ want)
 unfolding spread
@@ -159,25 +182,31 @@ taken-suc : (n reserve b f w : ℕ) → 0 < roomAt n reserve b f → taken n res
 unfolding taken
 taken-suc n reserve b f w h = omega (arith, room-suc n reserve b f h)
 
+-- the first k blocks have no room
+abbrev pub Full : ℕ → ℕ → List ℕ → ℕ → ℕ → Type 0
+Full n reserve fs b k = (j : ℕ) → j < k → roomAt n reserve (b + j) (getD fs j 0) ≡ 0
+
+module _ (n reserve f : ℕ) (fs : List ℕ) (b k : ℕ) (t : Full n reserve (f ∷ fs) b (suc k)) where
+  full-skip : (want : ℕ) → taken n reserve b f want ≡ 0
+  unfolding taken
+  full-skip want = let e : b + 0 ≡ b = omega arith in omega (arith, t 0 (omega arith), ap (λ (x : ℕ). roomAt n reserve x f) e)
+
+  full-next : Full n reserve fs (b + 1) k
+  full-next j h = let e : b + 1 + j ≡ b + suc j = omega arith in ap (λ (x : ℕ). roomAt n reserve x (getD fs j 0)) e ∙ t (suc j) (omega arith)
+
 -- the blocks before the k-th have no room, and the k-th has: it takes the first page
 pub record Leads (n reserve : ℕ) (fs : List ℕ) (b k : ℕ) : Type 0 where
   pub inside : k < length fs
-  pub before : (j : ℕ) → j < k → roomAt n reserve (b + j) (getD fs j 0) ≡ 0
+  pub before : Full n reserve fs b k
   pub some : 0 < roomAt n reserve (b + k) (getD fs k 0)
 
 leads-here : (n reserve f : ℕ) (fs : List ℕ) (b : ℕ) → Leads n reserve (f ∷ fs) b 0 → 0 < roomAt n reserve b f
 leads-here n reserve f fs b v = let e : b + 0 ≡ b = omega arith in omega (arith, v .some, ap (λ (x : ℕ). roomAt n reserve x f) e)
 
-leads-skip : (n reserve f : ℕ) (fs : List ℕ) (b k want : ℕ) → Leads n reserve (f ∷ fs) b (suc k) → taken n reserve b f want ≡ 0
-unfolding taken
-leads-skip n reserve f fs b k want v =
-    let e : b + 0 ≡ b = omega arith in omega (arith, v .before 0 (omega arith), ap (λ (x : ℕ). roomAt n reserve x f) e)
-
 leads-next : (n reserve f : ℕ) (fs : List ℕ) (b k : ℕ) → Leads n reserve (f ∷ fs) b (suc k) → Leads n reserve fs (b + 1) k
 leads-next n reserve f fs b k v = record {
   inside = omega (arith, v .inside);
-  before = λ j h. let e : b + 1 + j ≡ b + suc j = omega arith in
-      ap (λ (x : ℕ). roomAt n reserve x (getD fs j 0)) e ∙ v .before (suc j) (omega arith);
+  before = full-next n reserve f fs b k (v .before);
   some = let e : b + 1 + k ≡ b + suc k = omega arith in
       omega (arith, v .some, ap (λ (x : ℕ). roomAt n reserve x (getD fs k 0)) e);
 }
@@ -221,9 +250,9 @@ spread-step n reserve (f ∷ fs) b zero l w p v e =
 spread-step n reserve (f ∷ fs) b (suc k) l w p v e =
     let z : b + suc k ≡ b + 1 + k = omega arith in
     let e′ : p ≡ (b + 1 + k) * n + getD fs k 0 = e ∙ ap (λ (x : ℕ). x * n + getD fs k 0) z in
-    spread-skip n reserve f fs b l (suc w) (leads-skip n reserve f fs b k (suc w) v)
+    spread-skip n reserve f fs b l (suc w) (full-skip n reserve f fs b k (v .before) (suc w))
     ∙ spread-step n reserve fs (b + 1) k l w p (leads-next n reserve f fs b k v) e′
-    ∙ sym (ap (join n (extent l p 1)) (spread-skip n reserve f (set fs k (suc (getD fs k 0))) b (suc l) w (leads-skip n reserve f fs b k w v)))
+    ∙ sym (ap (join n (extent l p 1)) (spread-skip n reserve f (set fs k (suc (getD fs k 0))) b (suc l) w (full-skip n reserve f fs b k (v .before) w)))
 
 -- a block that takes nothing keeps its fill
 filled-skip : (n reserve f : ℕ) (fs : List ℕ) (b want : ℕ) → taken n reserve b f want ≡ 0 → filled n reserve (f ∷ fs) b want ≡ f ∷ filled n reserve fs (b + 1) want
@@ -245,21 +274,48 @@ filled-step n reserve (f ∷ fs) b zero w v =
     let q : suc w - m ≡ w - m′ = omega arith in
     ap₂ (λ (x y : ℕ). x ∷ filled n reserve fs (b + 1) y) p q
 filled-step n reserve (f ∷ fs) b (suc k) w v =
-    filled-skip n reserve f fs b (suc w) (leads-skip n reserve f fs b k (suc w) v)
+    filled-skip n reserve f fs b (suc w) (full-skip n reserve f fs b k (v .before) (suc w))
     ∙ ap (λ (r : List ℕ). f ∷ r) (filled-step n reserve fs (b + 1) k w (leads-next n reserve f fs b k v))
-    ∙ sym (filled-skip n reserve f (set fs k (suc (getD fs k 0))) b w (leads-skip n reserve f fs b k w v))
-
-pub spread-none : (n reserve : ℕ) (fs : List ℕ) (b l : ℕ) → spread n reserve fs b l 0 ≡ []
-unfolding spread
-spread-none n reserve [] b l = refl
-spread-none n reserve (f ∷ fs) b l =
-    spread-skip n reserve f fs b l 0 (omega (arith, taken-le n reserve b f 0)) ∙ spread-none n reserve fs (b + 1) l
+    ∙ sym (filled-skip n reserve f (set fs k (suc (getD fs k 0))) b w (full-skip n reserve f fs b k (v .before) w))
 
 pub filled-none : (n reserve : ℕ) (fs : List ℕ) (b : ℕ) → filled n reserve fs b 0 ≡ fs
 unfolding filled
 filled-none n reserve [] b = refl
 filled-none n reserve (f ∷ fs) b =
     filled-skip n reserve f fs b 0 (omega (arith, taken-le n reserve b f 0)) ∙ ap (λ (r : List ℕ). f ∷ r) (filled-none n reserve fs (b + 1))
+
+pub filled-whole : (n reserve f : ℕ) (fs : List ℕ) (b want : ℕ) → want ≤ roomAt n reserve b f → filled n reserve (f ∷ fs) b want ≡ (f + want) ∷ fs
+unfolding filled taken
+filled-whole n reserve f fs b want r =
+    let m = taken n reserve b f want in
+    let e : m ≡ want = omega arith in
+    let z : want - want ≡ 0 = omega arith in
+    ap (λ (x : ℕ). (f + x) ∷ filled n reserve fs (b + 1) (want - x)) e
+    ∙ ap (λ (x : ℕ). (f + want) ∷ filled n reserve fs (b + 1) x) z
+    ∙ ap (λ (r : List ℕ). (f + want) ∷ r) (filled-none n reserve fs (b + 1))
+
+-- blocks without room are passed over
+pub spread-skipped : (n reserve k : ℕ) (fs : List ℕ) (b l want : ℕ) → Full n reserve fs b k
+    → spread n reserve fs b l want ≡ spread n reserve (drop k fs) (b + k) l want
+unfolding spread
+spread-skipped n reserve zero fs b l want t = let z : b ≡ b + 0 = omega arith in ap (λ (x : ℕ). spread n reserve fs x l want) z
+spread-skipped n reserve (suc k) [] b l want t = refl
+spread-skipped n reserve (suc k) (f ∷ fs) b l want t =
+    let z : b + 1 + k ≡ b + suc k = omega arith in
+    spread-skip n reserve f fs b l want (full-skip n reserve f fs b k t want)
+    ∙ spread-skipped n reserve k fs (b + 1) l want (full-next n reserve f fs b k t)
+    ∙ ap (λ (x : ℕ). spread n reserve (drop k fs) x l want) z
+
+pub filled-skipped : (n reserve k : ℕ) (fs : List ℕ) (b want : ℕ) → Full n reserve fs b k
+    → filled n reserve fs b want ≡ take k fs ++ filled n reserve (drop k fs) (b + k) want
+unfolding filled
+filled-skipped n reserve zero fs b want t = let z : b ≡ b + 0 = omega arith in ap (λ (x : ℕ). filled n reserve fs x want) z
+filled-skipped n reserve (suc k) [] b want t = refl
+filled-skipped n reserve (suc k) (f ∷ fs) b want t =
+    let z : b + 1 + k ≡ b + suc k = omega arith in
+    filled-skip n reserve f fs b want (full-skip n reserve f fs b k t want)
+    ∙ ap (λ (r : List ℕ). f ∷ r) (filled-skipped n reserve k fs (b + 1) want (full-next n reserve f fs b k t)
+    ∙ ap (λ (x : ℕ). take k fs ++ filled n reserve (drop k fs) x want) z)
 
 -- ---- labels
 

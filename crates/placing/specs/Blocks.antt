@@ -73,7 +73,8 @@ module _ (m b : ℕ) (blk : List ℕ) (h : HasBlock blk b) where
 -- ---- block by block
 
 module _ (n reserve : ℕ) where
-  raises-before : (k b want : ℕ) (blk : List ℕ) → stride * (b + k) ≤ length blk → (c : ℕ) → c < b → fillWord (raises n reserve k b want blk) c ≡ fillWord blk c
+  -- the blocks before b stay
+  pub raises-before : (k b want : ℕ) (blk : List ℕ) → stride * (b + k) ≤ length blk → (c : ℕ) → c < b → fillWord (raises n reserve k b want blk) c ≡ fillWord blk c
   unfolding raises
   raises-before zero b want blk h c s = refl
   raises-before (suc k) b want blk h c s =
@@ -114,14 +115,3 @@ module _ (n reserve : ℕ) where
   raises-nothing (suc k) b blk =
       let m = taken-le n reserve b (fillWord blk b) 0 in
       raises-none k b 0 blk (omega arith) ∙ raises-nothing k (b + 1) blk
-
-  -- blocks that take nothing are passed over
-  pub raises-skipped : (k want blocks : ℕ) (blk : List ℕ) → k ≤ blocks → ((j : ℕ) → j < k → taken n reserve j (fillWord blk j) want ≡ 0)
-      → raises n reserve (blocks - k) k want blk ≡ raises n reserve blocks 0 want blk
-  raises-skipped zero want blocks blk h t = let z : blocks - 0 ≡ blocks = omega arith in ap (λ (m : ℕ). raises n reserve m 0 want blk) z
-  raises-skipped (suc k) want blocks blk h t =
-      let e : suc k ≡ k + 1 = omega arith in
-      let s : blocks - k ≡ suc (blocks - suc k) = omega arith in
-      ap (λ (b : ℕ). raises n reserve (blocks - suc k) b want blk) e
-      ∙ sym (ap (λ (m : ℕ). raises n reserve m k want blk) s ∙ raises-none (blocks - suc k) k want blk (t k (omega arith)))
-      ∙ raises-skipped k want blocks blk (omega arith) (λ j a. t j (omega arith))

@@ -95,6 +95,7 @@ pub record Placeable (blocks n reserve from l want : ℕ) (blk spare out : List 
   pub pages-few : n ≤ 256
   pub valid : (b : ℕ) → b < blocks → validWord blk b ≤ fillWord blk b
   pub lines : l + want ≤ none
+  pub some : 0 < want
   pub start : from ≡ startBlock n reserve (fillsOf blocks blk) want
   pub room : want ≤ free (bare blocks n reserve blk spare)
   pub slots : 3 * length (pieces l want (bare blocks n reserve blk spare)) ≤ length out

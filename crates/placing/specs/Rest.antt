@@ -1,16 +1,17 @@
 -- The way over the blocks: the pieces that the blocks from b on give.
 use Prim.Native.Nat.{ℕ, zero, suc, _+_, _-_, _*_, _≤_, _<_}
 use mathlib.Core.Path.{_≡_, refl, sym, ap, _∙_}
-use mathlib.Core.List.{List, [], _∷_}
+use mathlib.Core.List.{List, [], _∷_, _++_}
 use native.Mathlib.Omega.{arith}
 use native.Mathlib.Nat.{mul-le-mul}
-use lib.ListN.{length}
+use lib.ListN.{length, take, drop}
+use lib.Seq.{take-at, drop-at}
 use Rattle.rules.specs.Counting.{tabulate}
 use Rattle.rules.specs.Extents.{extent}
 use Rattle.rules.specs.Blocks.{fillWord}
 use Rattle.rules.specs.declared.Extent.{Extent}
-use Rattle.laws.specs.Cells.{block-le}
-use Rattle.laws.specs.Spread.{taken, taken-le, withPiece, spread, spread-skip, spread-some, spread-length, tabulate-each}
+use Rattle.laws.specs.Cells.{block-le, length-tabulate, tabulate-append}
+use Rattle.laws.specs.Spread.{taken, withPiece, spread, spread-none, spread-skip, spread-some, spread-length, tabulate-each}
 use Rattle.placing.specs.Bare.{fillsOf}
 use Rattle.placing.specs.Blocks.{fillsFrom}
 
@@ -23,21 +24,23 @@ fills-each (suc k) b blk =
     ∙ ap (λ (r : List ℕ). fillWord blk (b + 0) ∷ r) (fills-each k (b + 1) blk
     ∙ tabulate-each k (λ i. fillWord blk (b + 1 + i)) (λ i. fillWord blk (b + suc i)) (λ i. let e : b + 1 + i ≡ b + suc i = omega arith in ap (fillWord blk) e))
 
-pub fills-all : (k : ℕ) (blk : List ℕ) → fillsFrom k 0 blk ≡ fillsOf k blk
-fills-all k blk =
-    fills-each k 0 blk ∙ tabulate-each k (λ i. fillWord blk (0 + i)) (fillWord blk) (λ i. let e : 0 + i ≡ i = omega arith in ap (fillWord blk) e)
+-- the fills of all blocks: of those before b, and of those from b on
+pub fills-split : (blocks b : ℕ) (blk : List ℕ) → b ≤ blocks → fillsOf blocks blk ≡ tabulate b (fillWord blk) ++ fillsFrom (blocks - b) b blk
+fills-split blocks b blk h =
+    tabulate-append b (blocks - b) blocks (fillWord blk) (omega arith)
+    ∙ ap (λ (r : List ℕ). tabulate b (fillWord blk) ++ r) (sym (fills-each (blocks - b) b blk))
+
+pub fills-take : (blocks b : ℕ) (blk : List ℕ) → b ≤ blocks → take b (fillsOf blocks blk) ≡ tabulate b (fillWord blk)
+fills-take blocks b blk h =
+    ap (take b) (fills-split blocks b blk h) ∙ take-at (tabulate b (fillWord blk)) (fillsFrom (blocks - b) b blk) b (length-tabulate b (fillWord blk))
+
+pub fills-drop : (blocks b : ℕ) (blk : List ℕ) → b ≤ blocks → drop b (fillsOf blocks blk) ≡ fillsFrom (blocks - b) b blk
+fills-drop blocks b blk h =
+    ap (drop b) (fills-split blocks b blk h) ∙ drop-at (tabulate b (fillWord blk)) (fillsFrom (blocks - b) b blk) b (length-tabulate b (fillWord blk))
 
 -- a page's number is small
 pub page-small : (blocks n b f : ℕ) → b < blocks → blocks ≤ 1024 → n ≤ 256 → f ≤ n → b * n + f ≤ 262144
 page-small blocks n b f h s t g = omega (arith, block-le n b blocks h, mul-le-mul {n₁ = blocks} {m₁ = n} {n₂ = 1024} {m₂ = 256} s t)
-
--- of no pages there are no pieces
-spread-nothing : (n reserve : ℕ) (fs : List ℕ) (b l : ℕ) → spread n reserve fs b l 0 ≡ []
-unfolding spread
-spread-nothing n reserve [] b l = refl
-spread-nothing n reserve (f ∷ fs) b l =
-    let m = taken-le n reserve b f 0 in
-    spread-skip n reserve f fs b l 0 (omega arith) ∙ spread-nothing n reserve fs (b + 1) l
 
 module _ (n reserve blocks : ℕ) (blk : List ℕ) where
   unfoldable pub rest : ℕ → ℕ → ℕ → List Extent
@@ -47,11 +50,9 @@ module _ (n reserve blocks : ℕ) (blk : List ℕ) where
   abbrev pub takes : ℕ → ℕ → ℕ
   takes b want = taken n reserve b (fillWord blk b) want
 
-  pub rest-start : (l want : ℕ) → rest 0 l want ≡ spread n reserve (fillsOf blocks blk) 0 l want
+  pub rest-drop : (b l want : ℕ) → b ≤ blocks → rest b l want ≡ spread n reserve (drop b (fillsOf blocks blk)) b l want
   unfolding rest
-  rest-start l want =
-      let z : blocks - 0 ≡ blocks = omega arith in
-      ap (λ (fs : List ℕ). spread n reserve fs 0 l want) (ap (λ (k : ℕ). fillsFrom k 0 blk) z ∙ fills-all blocks blk)
+  rest-drop b l want h = ap (λ (fs : List ℕ). spread n reserve fs b l want) (sym (fills-drop blocks b blk h))
 
   pub rest-end : (b l want : ℕ) → blocks ≤ b → rest b l want ≡ []
   unfolding rest fillsFrom spread
@@ -60,7 +61,7 @@ module _ (n reserve blocks : ℕ) (blk : List ℕ) where
   pub rest-done : (b l want : ℕ) → want ≡ 0 → rest b l want ≡ []
   unfolding rest
   rest-done b l want e =
-      ap (λ (x : ℕ). spread n reserve (fillsFrom (blocks - b) b blk) b l x) e ∙ spread-nothing n reserve (fillsFrom (blocks - b) b blk) b l
+      ap (λ (x : ℕ). spread n reserve (fillsFrom (blocks - b) b blk) b l x) e ∙ spread-none n reserve (fillsFrom (blocks - b) b blk) b l
 
   module _ (b l want : ℕ) (h : b < blocks) where
     fills-next : fillsFrom (blocks - b) b blk ≡ fillWord blk b ∷ fillsFrom (blocks - (b + 1)) (b + 1) blk
@@ -82,14 +83,6 @@ module _ (n reserve blocks : ℕ) (blk : List ℕ) where
     pub rest-next : rest b l want ≡ withPiece (extent l (b * n + fillWord blk b) (takes b want)) (rest (b + 1) (l + takes b want) (want - takes b want))
     unfolding rest spread
     rest-next = ap (λ (fs : List ℕ). spread n reserve fs b l want) fills-next
-
-  -- blocks that take nothing are passed over
-  pub rest-skipped : (k want : ℕ) → k ≤ blocks → ((j : ℕ) → j < k → takes j want ≡ 0) → (l : ℕ) → rest k l want ≡ rest 0 l want
-  rest-skipped zero want h t l = refl
-  rest-skipped (suc k) want h t l =
-      let e : suc k ≡ k + 1 = omega arith in
-      ap (λ (b : ℕ). rest b l want) e ∙ sym (rest-skip k l want (omega arith) (t k (omega arith)))
-      ∙ rest-skipped k want (omega arith) (λ j a. t j (omega arith)) l
 
   -- ---- counted
 

@@ -1,127 +1,221 @@
--- Where a write starts, and that the walks over the blocks may start there: the blocks before it take nothing. This is what the callers of `start_of`,
--- `pieces_of` and `place` go by: on a device that placement cannot tell from the words it is the rules' first page and the rules' pieces.
+-- Where a write starts: with the first block that has room for all of its pages or, where none has, with the first that has room for one. This is what the
+-- callers of `start_of`, `pieces_of` and `place` go by: on a device that placement cannot tell from the words it is the rules' first page and the rules' pieces.
 use Prim.Native.Nat.{ℕ, _+_, _*_, _≤_, _<_}
-use mathlib.Core.Bool.{Bool, true}
-use mathlib.Core.Path.{_≡_, sym, ap, _∙_}
+use mathlib.Core.Path.{_≡_, refl, sym, ap, _∙_, subst}
 use mathlib.Core.List.{List, [], _∷_}
-use mathlib.Core.Logic.{by-cases}
+use mathlib.Core.Bool.{Bool}
+use mathlib.Core.Logic.{_⊎_, inl, inr, by-cases, ⊎-elim}
 use native.Mathlib.Omega.{arith}
 use native.Mathlib.Decide.{decLt}
-use borrow.Author.Tests.{lt-ltb, le-ltb, ltb-true, ltb-false}
-use lib.Dec.{ltb}
-use lib.ListN.{length, getD}
-use Rattle.rules.specs.Blocks.{fillWord}
+use borrow.Author.Tests.{lt-ltb, le-ltb, le-leb, lt-leb, leb-true}
+use lib.Dec.{leb}
+use lib.ListN.{length, getD, drop}
+use Rattle.rules.specs.Counting.{first}
+use Rattle.rules.specs.Blocks.{stride, fillWord}
 use Rattle.rules.specs.Extents.{none}
-use Rattle.rules.specs.Device.{Device, blocks, lines, free}
+use Rattle.rules.specs.Device.{Device, lines, free}
 use Rattle.rules.specs.Placement.{pieces}
 use Rattle.rules.specs.declared.Extent.{Extent}
 use Rattle.laws.specs.Cells.{length-tabulate, getD-tabulate}
-use Rattle.laws.specs.Picks.{first-le, first-passes, first-least, first-is, first-none}
+use Rattle.laws.specs.Picks.{first-le, first-passes, first-is, first-none}
 use Rattle.laws.specs.Device.{SoundDevice}
-use Rattle.laws.specs.Spread.{taken, startBlock}
+use Rattle.laws.specs.Spread.{roomAt, taken, spread, fitting, startBlock}
 use Rattle.laws.specs.Order.{spread-pieces, start-inside}
 use Rattle.laws.specs.Alike.{Alike, alike-free, alike-pieces}
 use Rattle.laws.specs.Growth.{firstPlace, pieces-begin}
 use Rattle.placing.specs.Bare.{fillsOf, bare}
-use Rattle.placing.specs.Rest.{rest, takes, rest-start, rest-some, rest-skipped}
+use Rattle.placing.specs.Rest.{rest, takes, rest-drop, rest-some}
 use Rattle.placing.specs.declared.Start.{Start}
+
+-- words whose block records are those of a sound state
+pub record Startable (blocks n : ℕ) (blk : List ℕ) : Type 0 where
+  pub size : stride * blocks ≤ length blk
+  pub blocks-few : blocks ≤ 1024
+  pub pages-few : n ≤ 256
+  pub full : (b : ℕ) → b < blocks → fillWord blk b ≤ n
 
 -- what `start_of` finds for `want` pages
 pub record Starts (n reserve blocks : ℕ) (blk : List ℕ) (want : ℕ) (r : Start) : Type 0 where
   pub block : r .block ≡ startBlock n reserve (fillsOf blocks blk) want
   pub page : r .block < blocks → r .page ≡ r .block * n + fillWord blk (r .block)
 
+module _ (n reserve blocks : ℕ) (blk : List ℕ) where
+  size : length (fillsOf blocks blk) ≡ blocks
+  size = length-tabulate blocks (fillWord blk)
+
+  -- the room of block b, by its fill in the words and in the list
+  abbrev roomOf : ℕ → ℕ
+  roomOf b = roomAt n reserve b (fillWord blk b)
+
+  abbrev test : ℕ → ℕ → Bool
+  test m b = leb m (roomAt n reserve b (getD (fillsOf blocks blk) b 0))
+
+  room-same : (b : ℕ) → b < blocks → roomAt n reserve b (getD (fillsOf blocks blk) b 0) ≡ roomOf b
+  room-same b h = ap (roomAt n reserve b) (getD-tabulate blocks (fillWord blk) b 0 h)
+
+  fitting-is : (m b : ℕ) → b < blocks → m ≤ roomOf b → ((j : ℕ) → j < b → roomOf j < m) → fitting n reserve (fillsOf blocks blk) m ≡ b
+  unfolding fitting
+  fitting-is m b h r t =
+      first-is (length (fillsOf blocks blk)) (test m) b (omega (arith, size))
+      (le-leb m (roomAt n reserve b (getD (fillsOf blocks blk) b 0)) (omega (arith, room-same b h)))
+      (λ j a. lt-leb m (roomAt n reserve j (getD (fillsOf blocks blk) j 0)) (omega (arith, room-same j (omega arith), t j a)))
+
+  fitting-none : (m : ℕ) → ((j : ℕ) → j < blocks → roomOf j < m) → fitting n reserve (fillsOf blocks blk) m ≡ blocks
+  unfolding fitting
+  fitting-none m t =
+      first-none (length (fillsOf blocks blk)) (test m)
+      (λ j a. let h : j < blocks = omega (arith, size) in
+      lt-leb m (roomAt n reserve j (getD (fillsOf blocks blk) j 0)) (omega (arith, room-same j h, t j h)))
+      ∙ size
+
+  -- ---- the pass over the records
+
+  -- before block b none has room for all of `want` pages, and `any` is the first that has room for one, or the number of blocks
+  pub record Passed (want b any : ℕ) : Type 0 where
+    pub inside : b ≤ blocks
+    pub bound : any ≤ blocks
+    pub short : (j : ℕ) → j < b → roomOf j < want
+    pub before : (j : ℕ) → j < b → j < any → roomOf j ≡ 0
+    pub some : any < blocks → (any < b) × (0 < roomOf any)
+
+  module _ (want b : ℕ) where
+    pub passed-first : b ≡ 0 → Passed want b blocks
+    passed-first e = record {
+      inside = omega arith;
+      bound = omega arith;
+      short = λ j h. absurd (omega arith);
+      before = λ j h _. absurd (omega arith);
+      some = λ h. absurd (omega arith);
+    }
+
+    module _ (any : ℕ) (p : Passed want b any) (m : ℕ) (t : m ≡ takes n reserve blocks blk b want) where
+      -- one with room for all of them
+      pub passed-found : b < blocks → m ≡ want → b ≡ startBlock n reserve (fillsOf blocks blk) want
+      unfolding startBlock taken
+      passed-found h e =
+          let f = fitting-is want b h (omega arith) (p .short) in
+          sym (rw f (rw (lt-ltb b (length (fillsOf blocks blk)) (omega (arith, size))) refl))
+
+      next-short : m < want → (j : ℕ) → j < b + 1 → roomOf j < want
+      unfolding taken
+      next-short s j h =
+          by-cases (decLt j b)
+          (λ a. p .short j a)
+          (λ a. let e : j ≡ b = omega arith in omega (arith, ap roomOf e))
+
+      -- the first with room for one
+      pub passed-some : b < blocks → m < want → 0 < m → any ≡ blocks → Passed want (b + 1) b
+      unfolding taken
+      passed-some h s o e = record {
+        inside = omega arith;
+        bound = omega arith;
+        short = next-short s;
+        before = λ j a c. p .before j c (omega arith);
+        some = λ _. (omega arith, omega arith);
+      }
+
+      -- one without room, or behind it
+      pub passed-next : b < blocks → m < want → (m ≡ 0) ⊎ (any < blocks) → Passed want (b + 1) any
+      unfolding taken
+      passed-next h s o = record {
+        inside = omega arith;
+        bound = p .bound;
+        short = next-short s;
+        before = λ j a c. by-cases (decLt j b)
+            (λ d. p .before j d c)
+            (λ d. let e : j ≡ b = omega arith in ⊎-elim (λ z. omega (arith, ap roomOf e)) (λ z. absurd (omega (arith, p .some z .0))) o);
+        some = λ a. let q = p .some a in (omega (arith, q .0), q .1);
+      }
+
+    -- none with room for all of them
+    pub passed-end : (any : ℕ) → Passed want b any → blocks ≤ b → any ≡ startBlock n reserve (fillsOf blocks blk) want
+    unfolding startBlock
+    passed-end any p h =
+        let none-fits = fitting-none want (λ j a. p .short j (omega arith)) in
+        let any-is : fitting n reserve (fillsOf blocks blk) 1 ≡ any =
+        by-cases (decLt any blocks)
+        (λ a. let q = p .some a in fitting-is 1 any a (omega (arith, q .1)) (λ j c. omega (arith, p .before j (omega arith) c)))
+        (λ a. fitting-none 1 (λ j c. omega (arith, p .before j (omega arith) (omega arith))) ∙ omega (arith, p .bound)) in
+        sym (rw none-fits (rw (le-ltb blocks (length (fillsOf blocks blk)) (omega (arith, size))) any-is))
+
+  -- ---- the block that is found
+
+  fitting-le : (m : ℕ) → fitting n reserve (fillsOf blocks blk) m ≤ blocks
+  unfolding fitting
+  fitting-le m = omega (arith, first-le (length (fillsOf blocks blk)) (test m), size)
+
+  fitting-room : (m : ℕ) → fitting n reserve (fillsOf blocks blk) m < blocks → m ≤ roomOf (fitting n reserve (fillsOf blocks blk) m)
+  unfolding fitting
+  fitting-room m h =
+      let b = first (length (fillsOf blocks blk)) (test m) in
+      omega (
+        arith,
+        leb-true m (roomAt n reserve b (getD (fillsOf blocks blk) b 0)) (first-passes (length (fillsOf blocks blk)) (test m) (omega (arith, size))),
+        room-same b h,
+      )
+
+  module _ (want from : ℕ) (is : from ≡ startBlock n reserve (fillsOf blocks blk) want) where
+    -- it is the first with room for all of them or the first with room for one
+    abbrev either : ℕ → Type 0
+    either m = from ≡ fitting n reserve (fillsOf blocks blk) m
+
+    start-either : either want ⊎ either 1
+    unfolding startBlock
+    start-either =
+        let fs = fillsOf blocks blk in
+        by-cases (decLt (fitting n reserve fs want) (length fs))
+        (λ h. inl (rw (lt-ltb (fitting n reserve fs want) (length fs) h) at is))
+        (λ h. inr (rw (le-ltb (fitting n reserve fs want) (length fs) (omega arith)) at is))
+
+    pub start-le : from ≤ blocks
+    start-le = ⊎-elim (λ e. omega (arith, fitting-le want)) (λ e. omega (arith, fitting-le 1)) start-either
+
+    start-takes : from < blocks → 0 < want → 0 < takes n reserve blocks blk from want
+    unfolding taken
+    start-takes h some =
+        ⊎-elim
+        (λ e. omega (arith, fitting-room want (omega arith), ap roomOf e))
+        (λ e. omega (arith, fitting-room 1 (omega arith), ap roomOf e))
+        start-either
+
+-- ---- the rules' pieces
+
+-- the pieces from the block on that is found are the rules'
+pub bare-pieces : (blocks n reserve : ℕ) (blk spare : List ℕ) (l want from : ℕ) → blocks * n ≤ none → 0 < want → want ≤ free (bare blocks n reserve blk spare)
+    → from ≡ startBlock n reserve (fillsOf blocks blk) want → rest n reserve blocks blk from l want ≡ pieces l want (bare blocks n reserve blk spare)
+unfolding bare
+bare-pieces blocks n reserve blk spare l want from w some f e =
+    rest-drop n reserve blocks blk from l want (start-le n reserve blocks blk want from e)
+    ∙ ap (λ (s : ℕ). spread n reserve (drop s (fillsOf blocks blk)) s l want) e
+    ∙ spread-pieces want (bare blocks n reserve blk spare) some l f (rw (length-tabulate blocks (fillWord blk)) w)
+
+-- ---- on a device with these pages, fills, labels and reserve
+
 -- the page of the first piece, or 0 where there is none
 unfoldable pageOf : List Extent → ℕ
 pageOf [] = 0
 pageOf (e ∷ es) = e .physical
 
-module _ (n reserve blocks : ℕ) (blk : List ℕ) (want : ℕ) where
-  abbrev test : ℕ → Bool
-  test b = ltb 0 (taken n reserve b (getD (fillsOf blocks blk) b 0) want)
-
-  size : length (fillsOf blocks blk) ≡ blocks
-  size = length-tabulate blocks (fillWord blk)
-
-  -- what a block takes, by its fill in the list and in the words
-  taken-at : (b : ℕ) → b < blocks → taken n reserve b (getD (fillsOf blocks blk) b 0) want ≡ takes n reserve blocks blk b want
-  taken-at b h = ap (λ (f : ℕ). taken n reserve b f want) (getD-tabulate blocks (fillWord blk) b 0 h)
-
-  -- the blocks before b take nothing
-  abbrev pub Skips : ℕ → Type 0
-  Skips b = (j : ℕ) → j < b → takes n reserve blocks blk j want ≡ 0
-
-  pub skips-more : (b : ℕ) → Skips b → takes n reserve blocks blk b want ≡ 0 → Skips (b + 1)
-  skips-more b t e j h =
-      by-cases (decLt j b)
-      (λ a. t j a)
-      (λ a. let k : j ≡ b = omega arith in ap (λ (x : ℕ). takes n reserve blocks blk x want) k ∙ e)
-
-  pub start-found : (b : ℕ) → b < blocks → 0 < takes n reserve blocks blk b want → Skips b
-      → b ≡ startBlock n reserve (fillsOf blocks blk) want
-  unfolding startBlock
-  start-found b h s t =
-      sym (first-is (length (fillsOf blocks blk)) test b (omega (arith, size))
-      (lt-ltb 0 (taken n reserve b (getD (fillsOf blocks blk) b 0) want) (omega (arith, taken-at b h)))
-      (λ j a. le-ltb 0 (taken n reserve j (getD (fillsOf blocks blk) j 0) want) (omega (arith, taken-at j (omega arith), t j a))))
-
-  pub start-none : (b : ℕ) → b ≡ blocks → Skips b → b ≡ startBlock n reserve (fillsOf blocks blk) want
-  unfolding startBlock
-  start-none b e t =
-      e ∙ sym size ∙ sym (first-none (length (fillsOf blocks blk)) test
-      (λ j a. let h : j < blocks = omega (arith, size) in
-      le-ltb 0 (taken n reserve j (getD (fillsOf blocks blk) j 0) want) (omega (arith, taken-at j h, t j (omega arith)))))
-
-  module _ (from : ℕ) (is : from ≡ startBlock n reserve (fillsOf blocks blk) want) where
-    pub start-le : from ≤ blocks
-    unfolding startBlock
-    start-le = omega (arith, is, first-le (length (fillsOf blocks blk)) test, size)
-
-    pub before-start : Skips from
-    unfolding startBlock
-    before-start j h =
-        let t = taken n reserve j (getD (fillsOf blocks blk) j 0) want in
-        omega (
-          arith,
-          ltb-false 0 t (first-least (length (fillsOf blocks blk)) test j (omega (arith, is))),
-          taken-at j (omega (arith, start-le)),
-        )
-
-    at-start : from < blocks → 0 < takes n reserve blocks blk from want
-    unfolding startBlock
-    at-start h =
-        let t = taken n reserve from (getD (fillsOf blocks blk) from 0) want in
-        let passes : test from ≡ true = ap test is ∙ first-passes (length (fillsOf blocks blk)) test (omega (arith, is, size)) in
-        omega (arith, ltb-true 0 t passes, taken-at from h)
-
-    pub rest-from : (l : ℕ) → rest n reserve blocks blk from l want ≡ rest n reserve blocks blk 0 l want
-    rest-from l = rest-skipped n reserve blocks blk from want start-le before-start l
-
-    first-from : from < blocks → (l : ℕ) → pageOf (rest n reserve blocks blk from l want) ≡ from * n + fillWord blk from
-    unfolding pageOf
-    first-from h l = ap pageOf (rest-some n reserve blocks blk from l want h (at-start h))
-
--- ---- on a device with these pages, fills, labels and reserve
-
 module _ (blocks n reserve : ℕ) (blk spare : List ℕ) (d : Device) (a : Alike (bare blocks n reserve blk spare) d) (s : SoundDevice d)
     (l want : ℕ) (some : 0 < want) (f : want ≤ free d) (h : l + want ≤ lines d) where
-  start-same : startBlock n reserve (fillsOf blocks blk) want ≡ startBlock (d .pages) (d .reserve) (d .fills) want
-  unfolding bare
-  start-same = rw (a .pages, a .fills, a .reserve)
-
   pub pieces-on : (from : ℕ) → from ≡ startBlock n reserve (fillsOf blocks blk) want → rest n reserve blocks blk from l want ≡ pieces l want d
-  unfolding bare
   pieces-on from e =
       let b = bare blocks n reserve blk spare in
-      let w : length (b .fills) * b .pages ≤ none = rw (a .fills, a .pages) (s .words) in
-      rest-from n reserve blocks blk want from e l
-      ∙ rest-start n reserve blocks blk l want ∙ spread-pieces want l b w (omega (arith, alike-free b d a)) ∙ alike-pieces l want b d a
+      let size : length (fillsOf blocks blk) ≡ blocks = length-tabulate blocks (fillWord blk) in
+      let w : blocks * n ≤ none = subst (λ (k : ℕ). k * n ≤ none) size (unfold bare in rw (a .fills, a .pages) (s .words)) in
+      bare-pieces blocks n reserve blk spare l want from w some (omega (arith, alike-free b d a)) e
+      ∙ alike-pieces l want b d a
 
   pub first-on : (r : Start) → Starts n reserve blocks blk want r → r .page ≡ firstPlace l want d
   unfolding pageOf bare
   first-on r e =
       let size : length (fillsOf blocks blk) ≡ blocks = length-tabulate blocks (fillWord blk) in
-      let inside : r .block < blocks = omega (arith, e .block, start-same, start-inside d want some f, ap length (a .fills)) in
+      let inside : r .block < blocks = omega (
+        arith,
+        e .block,
+        size,
+        start-inside want (bare blocks n reserve blk spare) some (omega (arith, alike-free (bare blocks n reserve blk spare) d a)),
+      ) in
       e .page inside
-      ∙ sym (first-from n reserve blocks blk want (r .block) (e .block) inside l)
+      ∙ sym (ap pageOf (rest-some n reserve blocks blk (r .block) l want inside (start-takes n reserve blocks blk want (r .block) (e .block) inside some)))
       ∙ ap pageOf (pieces-on (r .block) (e .block) ∙ pieces-begin l want d s f h some .is)

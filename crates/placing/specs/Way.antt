@@ -1,4 +1,4 @@
--- The way of a write over the blocks: what is left to do comes to what there was to do, and in the end to 01's pieces, fills and labels.
+-- The way of a write over the blocks: what is left to do comes to what there was to do, and in the end to the rules' pieces, fills and labels.
 use Prim.Native.Nat.{ℕ, suc, _+_, _-_, _*_, _≤_, _<_}
 use mathlib.Core.Path.{_≡_, refl, sym, ap, ap₂, _∙_}
 use mathlib.Core.List.{List, [], _∷_, _++_}
@@ -7,7 +7,7 @@ use native.Mathlib.Omega.{arith}
 use native.Mathlib.Decide.{decLt}
 use native.Mathlib.Nat.{mul-le-mul}
 use lib.Dec.{eqb}
-use lib.ListN.{length, getD, drop}
+use lib.ListN.{length, getD, take, drop}
 use lib.Seq.{sets, sets-eq, length-sets}
 use Rattle.rules.specs.Counting.{count, tabulate}
 use Rattle.rules.specs.Extents.{none, flat}
@@ -17,13 +17,13 @@ use Rattle.rules.specs.Placement.{targets, puts, pieces}
 use Rattle.rules.specs.Calls.{over}
 use Rattle.rules.specs.declared.Extent.{Extent}
 use Rattle.laws.specs.Slots.{flat-length}
-use Rattle.laws.specs.Cells.{block-le, length-tabulate, getD-tabulate}
-use Rattle.laws.specs.Spread.{startBlock, withPiece, spread, filled, labelled, listed-none, listed-some, taken-le, taken-room}
-use Rattle.laws.specs.Order.{spread-pieces, puts-filled, puts-labelled, puts-rise}
+use Rattle.laws.specs.Cells.{block-le, length-tabulate, getD-tabulate, tabulate-same}
+use Rattle.laws.specs.Spread.{withPiece, spread, filled, labelled, listed-none, listed-some, taken-le, taken-room}
+use Rattle.laws.specs.Order.{puts-filled, puts-labelled, puts-rise}
 use Rattle.placing.specs.Bare.{fillsOf, bare}
-use Rattle.placing.specs.Blocks.{raised, raises, raised-length, raised-rise, raised-after, raises-fills, raises-rise, raises-skipped, raises-nothing}
-use Rattle.placing.specs.Rest.{rest, takes, page-small, fills-all, rest-start, rest-next, rest-end, rest-done}
-use Rattle.placing.specs.Starts.{start-le, before-start, rest-from}
+use Rattle.placing.specs.Blocks.{raised, raises, raised-length, raised-rise, raised-after, raises-before, raises-fills, raises-rise, raises-nothing}
+use Rattle.placing.specs.Rest.{rest, takes, page-small, fills-split, fills-take, fills-drop, rest-next, rest-end, rest-done}
+use Rattle.placing.specs.Starts.{start-le, bare-pieces}
 use Rattle.placing.specs.Place.{pieceIn, RoomFor, PlacedIn, Placeable, Placed}
 
 -- ---- a piece in front of others
@@ -66,8 +66,8 @@ listed-le e =
 
 -- ---- the way
 
--- blocks before b have taken `done` pages in k pieces; what is left to do comes to what there was to do at the start
-pub record Placing (n reserve blocks l want : ℕ) (blk₀ spare₀ out₀ blk spare out : List ℕ) (b done k : ℕ) : Type 0 where
+-- blocks from the first one up to b have taken `done` pages in k pieces; what is left to do comes to what there was to do at the start
+pub record Placing (n reserve blocks from l want : ℕ) (blk₀ spare₀ out₀ blk spare out : List ℕ) (b done k : ℕ) : Type 0 where
   pub inside : b ≤ blocks
   pub few : done ≤ want
   pub rank : k ≤ b
@@ -75,30 +75,26 @@ pub record Placing (n reserve blocks l want : ℕ) (blk₀ spare₀ out₀ blk s
   pub spare-size : length spare ≡ length spare₀
   pub out-size : length out ≡ length out₀
   pub valid : (j : ℕ) → j < blocks → validWord blk j ≤ fillWord blk j
-  pub records : raises n reserve (blocks - b) b (want - done) blk ≡ raises n reserve blocks 0 want blk₀
-  pub labels : labelled (rest n reserve blocks blk b (l + done) (want - done)) spare ≡ labelled (rest n reserve blocks blk₀ 0 l want) spare₀
-  pub listing : sets out (3 * k) (flat (rest n reserve blocks blk b (l + done) (want - done))) ≡ sets out₀ 0 (flat (rest n reserve blocks blk₀ 0 l want))
-  pub counting : k + length (rest n reserve blocks blk b (l + done) (want - done)) ≡ length (rest n reserve blocks blk₀ 0 l want)
+  pub records : raises n reserve (blocks - b) b (want - done) blk ≡ raises n reserve (blocks - from) from want blk₀
+  pub labels : labelled (rest n reserve blocks blk b (l + done) (want - done)) spare ≡ labelled (rest n reserve blocks blk₀ from l want) spare₀
+  pub listing : sets out (3 * k) (flat (rest n reserve blocks blk b (l + done) (want - done))) ≡ sets out₀ 0 (flat (rest n reserve blocks blk₀ from l want))
+  pub counting : k + length (rest n reserve blocks blk b (l + done) (want - done)) ≡ length (rest n reserve blocks blk₀ from l want)
 
-module _ (n reserve blocks l want : ℕ) (blk₀ spare₀ out₀ : List ℕ) where
-  -- with the block that the write starts with
-  pub placing-start : (from : ℕ) → from ≡ startBlock n reserve (fillsOf blocks blk₀) want → ((j : ℕ) → j < blocks → validWord blk₀ j ≤ fillWord blk₀ j)
-      → Placing n reserve blocks l want blk₀ spare₀ out₀ blk₀ spare₀ out₀ from 0 0
-  placing-start from e v =
+module _ (n reserve blocks from l want : ℕ) (blk₀ spare₀ out₀ : List ℕ) (q : Placeable blocks n reserve from l want blk₀ spare₀ out₀) where
+  pub placing-start : Placing n reserve blocks from l want blk₀ spare₀ out₀ blk₀ spare₀ out₀ from 0 0
+  placing-start =
       let z : l + 0 ≡ l = omega arith in
       let w : want - 0 ≡ want = omega arith in
-      let le = start-le n reserve blocks blk₀ want from e in
-      let same = ap₂ (λ (x y : ℕ). rest n reserve blocks blk₀ from x y) z w ∙ rest-from n reserve blocks blk₀ want from e l in
+      let same = ap₂ (λ (x y : ℕ). rest n reserve blocks blk₀ from x y) z w in
       record {
-        inside = le;
+        inside = start-le n reserve blocks blk₀ want from (q .start);
         few = omega arith;
         rank = omega arith;
         blk-size = refl;
         spare-size = refl;
         out-size = refl;
-        valid = v;
-        records = ap (λ (y : ℕ). raises n reserve (blocks - from) from y blk₀) w
-            ∙ raises-skipped n reserve from want blocks blk₀ le (before-start n reserve blocks blk₀ want from e);
+        valid = q .valid;
+        records = ap (λ (y : ℕ). raises n reserve (blocks - from) from y blk₀) w;
         labels = ap (λ (es : List Extent). labelled es spare₀) same;
         listing = ap (λ (es : List Extent). sets out₀ 0 (flat es)) same;
         counting = omega (arith, ap length same);
@@ -113,26 +109,27 @@ rest-step n reserve blocks blk b l want m h s t =
     ∙ ap (λ (fs : List ℕ). withPiece (pieceIn blk b n l m) (spread n reserve fs (b + 1) (l + m) (want - m)))
     (sym (raised-after m b blk s (blocks - (b + 1)) (b + 1) (omega arith)))
 
--- the pieces of the way are 01's
-bare-words : (blocks n reserve : ℕ) (blk spare : List ℕ) → blocks ≤ 1024 → n ≤ 256 → length (bare blocks n reserve blk spare .fills) * n ≤ none
-unfolding bare
-bare-words blocks n reserve blk spare s t =
-    rw (length-tabulate blocks (fillWord blk)) (omega (arith, mul-le-mul {n₁ = blocks} {m₁ = n} {n₂ = 1024} {m₂ = 256} s t))
+-- the pieces of the way are the rules'
+pages-few : (blocks n : ℕ) → blocks ≤ 1024 → n ≤ 256 → blocks * n ≤ none
+pages-few blocks n s t = omega (arith, mul-le-mul {n₁ = blocks} {m₁ = n} {n₂ = 1024} {m₂ = 256} s t)
 
 module _ (blocks n reserve from l want : ℕ) (blk spare out : List ℕ) (q : Placeable blocks n reserve from l want blk spare out) where
-  pub ready-pieces : rest n reserve blocks blk 0 l want ≡ pieces l want (bare blocks n reserve blk spare)
-  unfolding bare
-  ready-pieces =
-      rest-start n reserve blocks blk l want
-      ∙ spread-pieces want l (bare blocks n reserve blk spare) (bare-words blocks n reserve blk spare (q .blocks-few) (q .pages-few)) (q .room)
+  words : blocks * n ≤ none
+  words = pages-few blocks n (q .blocks-few) (q .pages-few)
 
-  ready-spare : labelled (rest n reserve blocks blk 0 l want) spare ≡ puts l want (bare blocks n reserve blk spare) .spare
+  inside : from ≤ blocks
+  inside = start-le n reserve blocks blk want from (q .start)
+
+  pub ready-pieces : rest n reserve blocks blk from l want ≡ pieces l want (bare blocks n reserve blk spare)
+  ready-pieces = bare-pieces blocks n reserve blk spare l want from words (q .some) (q .room) (q .start)
+
+  ready-spare : labelled (rest n reserve blocks blk from l want) spare ≡ puts l want (bare blocks n reserve blk spare) .spare
   unfolding bare
   ready-spare =
       ap (λ (es : List Extent). labelled es spare) ready-pieces
-      ∙ sym (puts-labelled want l (bare blocks n reserve blk spare) (bare-words blocks n reserve blk spare (q .blocks-few) (q .pages-few)) (q .room))
+      ∙ sym (puts-labelled want l (bare blocks n reserve blk spare) (rw (length-tabulate blocks (fillWord blk)) words) (q .room))
 
-  ready-answer : sets out 0 (flat (rest n reserve blocks blk 0 l want)) ≡ over (flat (pieces l want (bare blocks n reserve blk spare))) out
+  ready-answer : sets out 0 (flat (rest n reserve blocks blk from l want)) ≡ over (flat (pieces l want (bare blocks n reserve blk spare))) out
   unfolding over
   ready-answer =
       let ws = flat (pieces l want (bare blocks n reserve blk spare)) in
@@ -142,25 +139,32 @@ module _ (blocks n reserve from l want : ℕ) (blk spare out : List ℕ) (q : Pl
       ∙ ap (λ (k : ℕ). ws ++ drop k out) z
 
   abbrev after : List ℕ
-  after = raises n reserve blocks 0 want blk
+  after = raises n reserve (blocks - from) from want blk
 
-  ready-size : stride * (0 + blocks) ≤ length blk
-  ready-size = omega (arith, q .blk-size)
+  ready-size : stride * (from + (blocks - from)) ≤ length blk
+  ready-size = omega (arith, q .blk-size, inside)
+
+  -- the fills of the blocks before the first one stay
+  ready-before : tabulate from (fillWord after) ≡ take from (fillsOf blocks blk)
+  ready-before =
+      tabulate-same from (fillWord after) (fillWord blk) (λ c h. raises-before n reserve (blocks - from) from want blk ready-size c h)
+      ∙ sym (fills-take blocks from blk inside)
 
   ready-fills : fillsOf blocks after ≡ puts l want (bare blocks n reserve blk spare) .fills
   unfolding bare
   ready-fills =
-      sym (fills-all blocks after)
-      ∙ raises-fills n reserve blocks 0 want blk ready-size
-      ∙ ap (λ (fs : List ℕ). filled n reserve fs 0 want) (fills-all blocks blk)
-      ∙ sym (puts-filled want l (bare blocks n reserve blk spare) (q .room))
+      fills-split blocks from after inside
+      ∙ ap₂ (λ (xs ys : List ℕ). xs ++ ys) ready-before (raises-fills n reserve (blocks - from) from want blk ready-size
+      ∙ ap (λ (fs : List ℕ). filled n reserve fs from want) (sym (fills-drop blocks from blk inside)))
+      ∙ ap (λ (s : ℕ). take s (fillsOf blocks blk) ++ filled n reserve (drop s (fillsOf blocks blk)) s want) (q .start)
+      ∙ sym (puts-filled want (bare blocks n reserve blk spare) (q .some) l (q .room))
 
   ready-valid : (b : ℕ) → b < blocks → validWord after b ≡ validWord blk b + count want (λ i. eqb (getD (targets l want (bare blocks n reserve blk spare)) i 0) b)
   unfolding bare
   ready-valid b h =
       omega (
         arith,
-        raises-rise n reserve blocks 0 want blk ready-size b,
+        raises-rise n reserve (blocks - from) from want blk ready-size b,
         getD-tabulate blocks (fillWord after) b 0 h,
         ap (λ (fs : List ℕ). getD fs b 0) ready-fills,
         puts-rise l want (bare blocks n reserve blk spare) b (omega (arith, length-tabulate blocks (fillWord blk))),
@@ -172,9 +176,9 @@ module _ (blocks n reserve from l want : ℕ) (blk spare out : List ℕ) (q : Pl
   ready-blocks = length-tabulate blocks (fillWord blk)
 
   pub ready-placed : (blk′ spare′ out′ : List ℕ) (r : ℕ) → blk′ ≡ after
-      → spare′ ≡ labelled (rest n reserve blocks blk 0 l want) spare
-      → out′ ≡ sets out 0 (flat (rest n reserve blocks blk 0 l want))
-      → r ≡ length (rest n reserve blocks blk 0 l want)
+      → spare′ ≡ labelled (rest n reserve blocks blk from l want) spare
+      → out′ ≡ sets out 0 (flat (rest n reserve blocks blk from l want))
+      → r ≡ length (rest n reserve blocks blk from l want)
       → Placed (bare blocks n reserve blk spare) l want blk out blk′ spare′ out′ r
   ready-placed blk′ spare′ out′ r records labels listing many = record {
     many = many ∙ ap length ready-pieces;
@@ -187,7 +191,7 @@ module _ (blocks n reserve from l want : ℕ) (blk spare out : List ℕ) (q : Pl
 -- ---- one block more
 
 module _ (n reserve blocks from l want : ℕ) (blk₀ spare₀ out₀ : List ℕ) (q : Placeable blocks n reserve from l want blk₀ spare₀ out₀)
-    (blk spare out : List ℕ) (b done k : ℕ) (p : Placing n reserve blocks l want blk₀ spare₀ out₀ blk spare out b done k) where
+    (blk spare out : List ℕ) (b done k : ℕ) (p : Placing n reserve blocks from l want blk₀ spare₀ out₀ blk spare out b done k) where
   module _ (m : ℕ) (h : b < blocks) (t : m ≡ takes n reserve blocks blk b (want - done)) where
     step-inside : HasBlock blk b
     step-inside = omega (arith, q .blk-size, p .blk-size)
@@ -228,7 +232,7 @@ module _ (n reserve blocks from l want : ℕ) (blk₀ spare₀ out₀ : List ℕ
     }
 
     pub placing-step : (blk′ spare′ out′ : List ℕ) (r : ℕ) → PlacedIn blk spare out blk′ spare′ out′ b n (l + done) m k r
-        → Placing n reserve blocks l want blk₀ spare₀ out₀ blk′ spare′ out′ (b + 1) (done + m) r
+        → Placing n reserve blocks from l want blk₀ spare₀ out₀ blk′ spare′ out′ (b + 1) (done + m) r
     unfolding raises
     placing-step blk′ spare′ out′ r w =
         let e = pieceIn blk b n (l + done) m in

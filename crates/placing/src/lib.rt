@@ -1,15 +1,15 @@
-// Where a write's pages go: the blocks in turn, each with what it has room for, the reserve never. The order is known here and nowhere else in
-// the code: `start_of` finds the block that a write starts with, and the walks over the blocks take it.
+// Where a write's pages go: the blocks in turn from the one that it starts with, each with what it has room for, the reserve never. The order is known here and
+// nowhere else in the code: `start_block` finds that block, in one pass over the records, and the walks over the blocks take it. One that has room for all pages takes them all.
 use rules::Extent;
 ghost use mathlib.Core.Path.{_≡_};
 ghost use Prim.Native.Nat.{ℕ, _+_, _*_, _<_, _≤_, _^_};
 ghost use lib.ListN.{length};
 ghost use Rattle.rules.specs.Blocks.{stride, fillWord, validWord, HasBlock};
-ghost use Rattle.laws.specs.Spread.{taken};
-ghost use Rattle.placing.specs.Bare.{bare};
+ghost use Rattle.laws.specs.Spread.{taken, startBlock};
+ghost use Rattle.placing.specs.Bare.{fillsOf, bare};
 ghost use Rattle.placing.specs.Blocks.{raised};
 ghost use Rattle.placing.specs.Rest.{rest};
-ghost use Rattle.placing.specs.Starts.{Starts};
+ghost use Rattle.placing.specs.Starts.{Startable, Starts};
 ghost use Rattle.placing.specs.Place.{RoomFor, PlacedIn, Placeable, Placed};
 
 // What block b takes of `want` pages.
@@ -36,22 +36,41 @@ pub struct Start {
     pub page: u32,
 }
 
-// Where `want` pages start: with the first block that takes some of them. Where none does, the block is the one behind the last.
-pub fn start_of(blk: &[u32], blocks: u32, n: u32, reserve: u32, want: u32) -> Start
-    requires { ⌜ (stride * blocks ≤ length (now blk)) × (blocks ≤ 1024) × (n ≤ 256) ⌝ }
-    ensures { λ r. ⌜ Starts n reserve blocks (now (blk .entry)) want r ⌝ }
+// The block that `want` pages start with: the first that has room for all of them or, where none has, the first that has room for one. Where no block
+// has, it is the one behind the last.
+fn start_block(blk: &[u32], blocks: u32, n: u32, reserve: u32, want: u32) -> usize
+    requires { ⌜ stride * blocks ≤ length (now blk) ⌝ }
+    ensures { λ r. ⌜ r ≡ startBlock n reserve (fillsOf blocks (now (blk .entry))) want ⌝ }
 {
+    let mut any = blocks as usize;
     let mut b: usize = 0;
     while b < blocks as usize {
-        if 0 < room_in(blk, b, n, reserve, want) {
-            return Start {
-                block: b,
-                page: (b as u32) * n + words::fill_of(blk, b),
-            };
+        let m = room_in(blk, b, n, reserve, want);
+        if m == want {
+            return b;
+        }
+        if 0 < m && any == blocks as usize {
+            any = b;
         }
         b += 1;
     }
-    Start { block: b, page: 0 }
+    any
+}
+
+// Where `want` pages start: the block, and its next page, which is 0 where there is no block.
+pub fn start_of(blk: &[u32], blocks: u32, n: u32, reserve: u32, want: u32) -> Start
+    requires { ⌜ Startable blocks n (now blk) ⌝ }
+    ensures { λ r. ⌜ Starts n reserve blocks (now (blk .entry)) want r ⌝ }
+{
+    let b = start_block(blk, blocks, n, reserve, want);
+    if blocks as usize <= b {
+        return Start { block: b, page: 0 };
+    }
+    let page = (b as u32) * n + words::fill_of(blk, b);
+    Start {
+        block: b,
+        page: page,
+    }
 }
 
 // How many pieces `want` pages make from block `from` on.

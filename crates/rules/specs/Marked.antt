@@ -1,4 +1,5 @@
--- P1 to P12 of document 01: one table, and one statement about the definitions, which holds by computing. MarkedRows.antt has it as an equation.
+-- P1 to P12 of document 01: one table, and one statement about the definitions, which holds by computing; a second one of the same kind has what document 02 adds.
+-- MarkedRows.antt has them as equations.
 use Prim.Native.Nat.{ℕ}
 use mathlib.Core.Bool.{true}
 use mathlib.Core.Path.{_≡_, refl}
@@ -73,10 +74,8 @@ marked =
     ∷ case (From.row 8) [] (answer (trim 9 5 1) (0 ∷ []) ∷ theMap (0 ∷ 16 ∷ 5 ∷ 6 ∷ 22 ∷ 10 ∷ []) ∷ report 22 15 11 ∷ [])
     -- P10
     ∷ case (From.anew 4 16 32 1) (write 1 0 16 ∷ []) (answer (trim 2 5 1) (6 ∷ []) ∷ answer (trim 2 0 16) (0 ∷ []) ∷ [])
-    -- P11
-    ∷ case usual (write 1 0 10 ∷ []) (
-    answer (write 2 10 16) (0 ∷ 2 ∷ 10 ∷ 10 ∷ 6 ∷ 16 ∷ 16 ∷ 10 ∷ [])
-    ∷ theMap (0 ∷ 0 ∷ 16 ∷ 16 ∷ 16 ∷ 10 ∷ []) ∷ [])
+    -- P11, as 02's T-04 has it
+    ∷ case usual (write 1 0 10 ∷ []) (answer (write 2 10 16) (0 ∷ 1 ∷ 10 ∷ 16 ∷ 16 ∷ []) ∷ theMap (0 ∷ 0 ∷ 10 ∷ 10 ∷ 16 ∷ 16 ∷ []) ∷ [])
     -- P12
     ∷ case (From.anew 3 1 1 1) [] (
     answer (write 1 0 1) (0 ∷ 1 ∷ 0 ∷ 0 ∷ 1 ∷ [])
@@ -87,9 +86,37 @@ marked =
     ∷ answer (write 3 0 1) (0 ∷ 1 ∷ 0 ∷ 2 ∷ 1 ∷ []) ∷ [])
     ∷ []
 
--- ---- the statement
+-- ---- document 02
+
+abbrev pub marked02 : List Case
+marked02 =
+    -- T-04: a page too many for block 0, which stays open; one that fills it; the next
+    case usual (write 1 0 10 ∷ []) (
+    answer (write 2 10 7) (0 ∷ 1 ∷ 10 ∷ 16 ∷ 7 ∷ [])
+    ∷ answer (write 3 17 6) (0 ∷ 1 ∷ 17 ∷ 10 ∷ 6 ∷ [])
+    ∷ answer (write 4 23 9) (0 ∷ 1 ∷ 23 ∷ 23 ∷ 9 ∷ [])
+    ∷ theMap (0 ∷ 0 ∷ 10 ∷ 10 ∷ 16 ∷ 7 ∷ 17 ∷ 10 ∷ 6 ∷ 23 ∷ 23 ∷ 9 ∷ []) ∷ report 16 32 0 ∷ [])
+    -- T-04: the lowest-numbered block with room, not the fullest
+    ∷ case usual (write 1 0 4 ∷ write 2 4 13 ∷ []) (answer (write 3 17 2) (0 ∷ 1 ∷ 17 ∷ 4 ∷ 2 ∷ []) ∷ [])
+    -- T-04: only the reserve has room for all, so 01's order is used, from the lowest block
+    ∷ case usual (write 1 0 10 ∷ write 2 10 10 ∷ write 3 20 10 ∷ []) (
+    answer (write 4 0 16) (0 ∷ 3 ∷ 0 ∷ 10 ∷ 6 ∷ 6 ∷ 26 ∷ 6 ∷ 12 ∷ 42 ∷ 4 ∷ [])
+    ∷ theMap (0 ∷ 10 ∷ 6 ∷ 6 ∷ 26 ∷ 6 ∷ 12 ∷ 42 ∷ 4 ∷ 16 ∷ 22 ∷ 4 ∷ 20 ∷ 32 ∷ 10 ∷ []) ∷ report 2 30 16 ∷ [])
+    -- T-04: 6 and 7 go by the pieces. Here 01's order would have needed two of them, a third slot and six words of the answer
+    ∷ case (From.anew 4 16 32 2) (write 1 0 10 ∷ []) (
+    answer (Call.write 2 16 16 (replicate 3 0)) (0 ∷ 1 ∷ 16 ∷ 16 ∷ 16 ∷ []) ∷ theMap (0 ∷ 0 ∷ 10 ∷ 16 ∷ 16 ∷ 16 ∷ []) ∷ [])
+    ∷ case (From.anew 4 16 32 4) (write 1 0 10 ∷ write 2 10 10 ∷ write 3 20 10 ∷ []) (answer (write 4 0 16) (6 ∷ 0 ∷ []) ∷ [])
+    ∷ case (From.anew 4 16 32 5) (write 1 0 10 ∷ write 2 10 10 ∷ write 3 20 10 ∷ []) (answer (Call.write 4 0 16 (replicate 8 0)) (7 ∷ 0 ∷ []) ∷ [])
+    ∷ []
+
+-- ---- the statements
 
 pub marked-holds : holds marked ≡ true
 unfolding opened
     answerOf lookAt next afterAll seen left start begun comesFrom comes musts sameBy holds
 marked-holds = refl
+
+pub marked02-holds : holds marked02 ≡ true
+unfolding opened
+    answerOf lookAt next afterAll seen left start begun comesFrom comes musts sameBy holds
+marked02-holds = refl

@@ -5,7 +5,7 @@ use Rattle.rules.specs.Blocks.{records}
 use Rattle.rules.specs.Shape.{sizes, lengths, shape, shaped}
 use Rattle.rules.specs.Sound.{rule1, rule2, rule3, rule4, mappedIn, rule5, rule6, sound}
 use Rattle.rules.specs.Device.{mapped, named, valid, staleIn, stale, live, room, free, extents, tableOf, deviceOf, headOf, wordsOf}
-use Rattle.rules.specs.Placement.{putAt, putsAt, placesAt, target, targets, puts, places, pieces}
+use Rattle.rules.specs.Placement.{putAt, putsAt, placesAt, target, inTurn, targets, puts, places, pieces}
 use Rattle.rules.specs.Reclaim.{victim, sources, goes, copied, moved, reclaimedAt, reclaimed}
 use Rattle.rules.specs.Read.{withHole, withHoles, found}
 use Rattle.rules.specs.Request.{applied, judged, withTable, numbered, written, trimmed}
@@ -20,7 +20,7 @@ unfolding sum count all first most picks tabulate among
     lookup joinable join runs slotsFrom flat records sizes lengths shape shaped
     rule1 rule2 rule3 rule4 mappedIn rule5 rule6 sound
     mapped named valid staleIn stale live room free extents tableOf deviceOf headOf wordsOf
-    putAt putsAt placesAt target targets puts places pieces
+    putAt putsAt placesAt target inTurn targets puts places pieces
     victim sources goes copied moved reclaimedAt reclaimed withHole withHoles found
     applied judged withTable numbered written trimmed refuse
     outside tooMany writeRefusal trimRefusal readRefusal reclaimRefusal refusal counts leaves lists over refused

@@ -1,9 +1,9 @@
 -- Where a write's pages go, and the device with them put there. The order of the blocks is `targets`, and nothing else knows it.
 use Prim.Native.Nat.{ℕ, zero, suc, _+_, _*_}
-use mathlib.Core.Bool.{not, _&&_}
+use mathlib.Core.Bool.{not, cond, _&&_}
 use mathlib.Core.List.{List, [], _∷_}
-use lib.Dec.{eqb, ltb}
-use lib.ListN.{set}
+use lib.Dec.{eqb, ltb, leb}
+use lib.ListN.{set, replicate}
 use Rattle.rules.specs.Counting.{first}
 use Rattle.rules.specs.Extents.{runs}
 use Rattle.rules.specs.Device.{Device, blocks, fill}
@@ -36,15 +36,21 @@ unfoldable pub placesAt : ℕ → List ℕ → Device → List ℕ
 placesAt l [] d = []
 placesAt l (b ∷ bs) d = (b * d .pages + fill d b) ∷ placesAt (suc l) bs (putAt b l d)
 
--- ---- 01, write: pages are taken one at a time from the lowest-numbered block, not the reserve, whose fill is below N
+-- ---- which block takes which page
 
-unfoldable pub target : Device → ℕ
-target d = first (blocks d) (λ b. not (eqb b (d .reserve)) && ltb (fill d b) (d .pages))
+-- the lowest-numbered block, not the reserve, that has room for m pages; for one page it is the lowest whose fill is below N
+unfoldable pub target : ℕ → Device → ℕ
+target m d = first (blocks d) (λ b. not (eqb b (d .reserve)) && leb (fill d b + m) (d .pages))
 
--- the block of each of n pages
+-- 01, write: pages are taken one at a time from the lowest-numbered block, not the reserve, whose fill is below N
+unfoldable pub inTurn : ℕ → ℕ → Device → List ℕ
+inTurn l zero d = []
+inTurn l (suc n) d = let b = target 1 d in b ∷ inTurn (suc l) n (putAt b l d)
+
+-- the block of each of n pages. 02, T-04: a write goes into the lowest-numbered block outside the reserve that has room for all n pages; only if there
+-- is none is 01's order used
 unfoldable pub targets : ℕ → ℕ → Device → List ℕ
-targets l zero d = []
-targets l (suc n) d = let b = target d in b ∷ targets (suc l) n (putAt b l d)
+targets l n d = cond (ltb (target n d) (blocks d)) (replicate n (target n d)) (inTurn l n d)
 
 unfoldable pub puts : ℕ → ℕ → Device → Device
 puts l n d = putsAt l (targets l n d) d

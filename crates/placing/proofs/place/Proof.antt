@@ -8,13 +8,13 @@ use Rattle.placing.proofs.place.Statement.{statement}
 use Rattle.placing.proofs.place.Tie as tie
 
 abbrev Inv-loop : tie.InvT-loop
-Inv-loop blk₀ spare₀ out₀ blocks n reserve from l want done₀ k₀ b₀ blk spare out done k b = Placing n reserve blocks l want blk₀ spare₀ out₀ blk spare out b done k
+Inv-loop blk₀ spare₀ out₀ blocks n reserve from l want done₀ k₀ b₀ blk spare out done k b = Placing n reserve blocks from l want blk₀ spare₀ out₀ blk spare out b done k
 
 abbrev μ-loop : tie.MeasureT-loop
 μ-loop blk₀ spare₀ out₀ blocks n reserve from l want done₀ k₀ b₀ blk spare out done k b = blocks - b
 
 loop-holds : tie.Need-loop-holds Inv-loop μ-loop
-loop-holds c = let q = c .before .before .before .pre in placing-start _ _ _ _ _ _ _ _ _ (q .start) (q .valid)
+loop-holds c = placing-start _ _ _ _ _ _ _ _ _ (c .before .before .before .pre)
 
 -- where block b's part of the write is known
 abbrev loop : tie.After-room-in Inv-loop μ-loop → tie.At-loop Inv-loop μ-loop

@@ -16,7 +16,9 @@ around-requires : tie.Need-around-requires
 around-requires c κs = search needs
 
 start-of-requires : tie.Need-start-of-requires
-start-of-requires c κs = search needs
+start-of-requires c κs =
+    let s = c .before .before .before .before .before in
+    record { size = omega (arith, s .pre .0 .blocks); blocks-few = s .pre .0 .sizes .b-high; pages-few = s .pre .0 .sizes .n-high; full = s .pre .1 .full }
 
 joins-left-requires : tie.Need-joins-left-requires
 joins-left-requires c κs =
