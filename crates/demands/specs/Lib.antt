@@ -7,6 +7,7 @@ pub mod Made
 pub mod Demand3
 pub mod Once
 pub mod Struck
+pub mod Whole
 pub mod Settle
 pub mod Shows
 pub mod Listed
@@ -16,6 +17,7 @@ pub mod Worlds
 pub mod Starts
 pub mod Refusals
 pub mod Shrinks
+pub mod Keeps
 pub mod Steps
 pub mod Traces
 pub mod Histories

@@ -1,4 +1,4 @@
--- The demands, the double refund and T-12 as theorems. Each statement is a record of the file that has its name; the proofs are in the files below.
+-- The demands, the double refund, T-04 and T-12 as theorems. Each statement is a record of the file that has its name; the proofs are in the files below.
 use Prim.Native.Nat.{ℕ, _*_, _-_, _≤_}
 use mathlib.Core.Bool.{true}
 use mathlib.Core.Path.{_≡_, refl, sym, ap, _∙_, subst}
@@ -21,12 +21,14 @@ use Rattle.demands.specs.Made.{Made}
 use Rattle.demands.specs.Demand3.{Asked, until, Settles, Demand3}
 use Rattle.demands.specs.Once.{AppliedOnce}
 use Rattle.demands.specs.Struck.{SixStruck}
+use Rattle.demands.specs.Whole.{KeptWhole}
 use Rattle.demands.specs.Refusals.{answers, reports, fresh-answers}
 use Rattle.demands.specs.Starts.{begin-holds, erasedFlash, erased-all, made-storable, made-begins}
 use Rattle.demands.specs.Histories.{holds-demand}
 use Rattle.demands.specs.Settling.{settles, wide-enough, write-enough}
 use Rattle.demands.specs.Repeats.{begins-once}
 use Rattle.demands.specs.Shrinks.{struck}
+use Rattle.demands.specs.Keeps.{keeps-whole}
 
 -- every request on every lent state
 pub demand-1 : Demand1
@@ -78,3 +80,7 @@ applied-once = begins-once
 -- every reclaim on every lent state: the 6 that document 02 strikes from its refusals was never given
 pub six-struck : (out : List ℕ) (s : Lent) → SixStruck out s
 six-struck = struck
+
+-- every accepted write: whole in the lowest-numbered block that has room for it, and cut only where none has
+pub kept-whole : (k l n : ℕ) (out : List ℕ) (s : Lent) → call (Call.write k l n out) s .refusal ≡ 0 → KeptWhole l n s (call (Call.write k l n out) s)
+kept-whole = keeps-whole

@@ -1,5 +1,5 @@
 -- The hypotheses of the theorems can be met, and what they speak of happens: by computing, on the device of P3 and on the smallest one.
-use Prim.Native.Nat.{ℕ, _+_, _-_, _*_, _^_, _≤_}
+use Prim.Native.Nat.{ℕ, zero, suc, _+_, _-_, _*_, _^_, _≤_}
 use mathlib.Core.Bool.{true, false, not}
 use mathlib.Core.Path.{_≡_, refl}
 use mathlib.Core.List.{List, [], _∷_, _++_}
@@ -18,7 +18,7 @@ use Rattle.rules.specs.Makes.{Make, make}
 use Rattle.rules.specs.Calls.{Call, call, sizesOnly, fresh}
 use Rattle.rules.specs.Request.{kept}
 use Rattle.rules.specs.Opened.{opened}
-use Rattle.rules.specs.Cases.{sameBy}
+use Rattle.rules.specs.Cases.{answerOf, sameBy}
 use Rattle.rules.specs.declared.Refusal.{Refusal}
 use Rattle.laws.specs.Cells.{replicate-at}
 use Rattle.laws.specs.Sound.{Storable}
@@ -30,6 +30,7 @@ use Rattle.demands.specs.Demand1.{given}
 use Rattle.demands.specs.Demand2.{trace, beginFresh}
 use Rattle.demands.specs.Demand3.{Asked, LongEnough, staleOf, until, times, Way, Roomy}
 use Rattle.demands.specs.Once.{repeats, noted, once}
+use Rattle.demands.specs.Whole.{HasRoom}
 
 -- ---- requests, with answer buffers of 48 words
 
@@ -121,10 +122,25 @@ refusals =
 abbrev worn : Lent
 worn = lent (record { blocks = 3; pages = 1; logical = 1; slots = 1; used = 0; reserve = 2; last = kept (2 ^ 64 - 1) }) (small .extentWords) (small .blockWords) (small .spare)
 
+-- two blocks of two pages, each with one page left, and the reserve
+abbrev halved : Lent
+halved = wordsOf record { pages = 2; slots = 4; table = 0 ∷ 2 ∷ []; fills = 1 ∷ 1 ∷ 0 ∷ []; spare = 0 ∷ none ∷ 1 ∷ none ∷ none ∷ none ∷ []; reserve = 2; last = kept 2 }
+
 -- one extent in the only slot, over a block's edge, and a stale page
 abbrev over-the-edge : Lent
 over-the-edge =
     lent (record { blocks = 4; pages = 2; logical = 2; slots = 1; used = 1; reserve = 3; last = kept 1 }) (0 ∷ 1 ∷ 2 ∷ []) (replicate (stride * 4) 1) (replicate 8 0)
+
+-- the answer to number 8, a write of so many pages from page 0 on
+abbrev sent : ℕ → Lent → List ℕ
+sent n s = let c = Call.write 8 0 n (replicate 48 0) in answerOf c (call c s)
+
+unroomy : (b : ℕ) → HasRoom 2 halved b → ⊥
+unfolding opened
+unroomy zero r = omega (arith, r .2)
+unroomy (suc zero) r = omega (arith, r .2)
+unroomy (suc (suc zero)) r = r .1 refl
+unroomy (suc (suc (suc b))) r = omega (arith, r .0)
 
 pub record Met : Type 0 where
   -- demand 1: each refusal is given somewhere, and a call is accepted
@@ -161,11 +177,16 @@ pub record Met : Type 0 where
   pub some-stale : given (Call.reclaim []) sound3 Refusal.NothingStale ≡ false
   pub six-if-damaged : (shaped over-the-edge ≡ true) × (sound over-the-edge ≡ false)
       × (given (Call.reclaim []) over-the-edge Refusal.NothingStale ≡ false) × (given (Call.reclaim []) over-the-edge Refusal.NoNodes ≡ true)
+  -- T-04: in the state of P3 block 0 has room for four pages and for no more, and five are kept whole in block 1; in another sound state no block has room for two
+  pub roomy-block : HasRoom 4 sound3 0 × (HasRoom 5 sound3 0 → ⊥) × HasRoom 5 sound3 1
+  pub whole-accepted : sameBy eqb (sent 5 sound3) (0 ∷ 1 ∷ 0 ∷ 16 ∷ 5 ∷ []) ≡ true
+  pub no-roomy-block : (b : ℕ) → HasRoom 2 halved b → ⊥
+  pub cut-accepted : sameBy eqb (sent 2 halved) (0 ∷ 2 ∷ 0 ∷ 1 ∷ 1 ∷ 1 ∷ 3 ∷ 1 ∷ []) ≡ true
 
 pub met : Met
 unfolding opened
     programs copies toDo ops does doing marks marking shown reads see step run begin trace beginFresh
-    staleOf until times repeats noted once sameBy
+    staleOf until times repeats noted once answerOf sameBy
 met = record {
   each-given = refl;
   fresh-accepted = refl;
@@ -192,4 +213,8 @@ met = record {
   repeated = refl;
   some-stale = refl;
   six-if-damaged = (refl, refl, refl, refl);
+  roomy-block = ((omega arith, λ e. omega arith, omega arith), (λ r. omega (arith, r .2)), (omega arith, λ e. omega arith, omega arith));
+  whole-accepted = refl;
+  no-roomy-block = unroomy;
+  cut-accepted = refl;
 }

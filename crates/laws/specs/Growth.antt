@@ -1,24 +1,28 @@
 -- How many extents a device's map has after a write and after a trim, in terms of those before, with the bounds: at most n + 1 more, and
 -- at most one a line.
-use Prim.Native.Nat.{ℕ, zero, suc, _+_, _*_, _%_, _≤_, _<_}
-use mathlib.Core.Path.{_≡_, refl, sym, ap, _∙_}
+use Prim.Native.Nat.{ℕ, zero, suc, _+_, _-_, _*_, _%_, _≤_, _<_}
+use mathlib.Core.Path.{_≡_, refl, sym, ap, _∙_, subst}
 use mathlib.Core.List.{List, [], _∷_}
 use mathlib.Core.Logic.{by-cases}
 use native.Mathlib.Omega.{arith}
 use native.Mathlib.Decide.{decLt, ℕ-discrete}
+use lib.Arith.{digits-mod}
 use lib.ListN.{length, getD}
 use native.Mathlib.Nat.{suc-mul, mul-mod-left}
-use Rattle.rules.specs.Extents.{none, extent, runs}
+use Rattle.rules.specs.Extents.{none, extent, lookup, runs}
 use Rattle.rules.specs.Device.{Device, blocks, lines, at, fill, free, extents}
-use Rattle.rules.specs.Placement.{putAt, putsAt, placesAt, targets, puts, places, pieces}
+use Rattle.rules.specs.Placement.{putAt, putsAt, placesAt, target, targets, puts, places, pieces}
 use Rattle.rules.specs.Request.{withTable, trimmed}
+use Rattle.rules.specs.declared.Extent.{Extent}
 use Rattle.laws.specs.Counts.{Begins, runs-first, startsBefore, endsAfter, leftJoin, trim-count, write-count, place-bound}
 use Rattle.laws.specs.Device.{SoundDevice, same-block, same-offset, page-lt, offset-lt}
 use Rattle.laws.specs.Placed.{Open, Opens, put-pages, put-fill, put-fill-other, put-one, puts-table, puts-pages, length-places, places-lt, places-small}
-use Rattle.laws.specs.Order.{length-targets, length-placed, targets-open, puts-all}
+use Rattle.laws.specs.Order.{target-found, length-targets, length-placed, targets-open, puts-all}
 use Rattle.laws.specs.Lines.{trimmed-lines}
 use Rattle.laws.specs.States.{table-lines}
-use Rattle.laws.specs.Runs.{runs-length}
+use Rattle.laws.specs.Rows.{Rows, lookup-after}
+use Rattle.laws.specs.Balance.{room-other}
+use Rattle.laws.specs.Runs.{runs-rows, runs-lookup, runs-length, WordLines}
 use Rattle.laws.specs.Encoded.{write-extents, extents-lines}
 
 -- ---- new pages lie from their block's fill on
@@ -109,16 +113,11 @@ puts-grow l (b ∷ bs) d s v z h =
     (next-page d s (getD (first ∷ rest) (length rest) none) (new (length rest) (omega arith)) (l + length (first ∷ rest))) in
     rw (puts-pages l (b ∷ bs) d, puts-table l (b ∷ bs) d) (rw size at counted)
 
-puts-bound : (l : ℕ) (bs : List ℕ) (d : Device) → SoundDevice d → Opens l bs d → l + length bs ≤ lines d → length (extents (putsAt l bs d)) ≤ length (extents d) + length bs + 1
+puts-bound : (l : ℕ) (bs : List ℕ) (d : Device) → SoundDevice d → Opens l bs d → l + length bs ≤ lines d
+    → length (extents (putsAt l bs d)) ≤ length (extents d) + length (runs (d .pages) l (placesAt l bs d)) + 1
 puts-bound l bs d s v h =
     let new = runs (d .pages) l (placesAt l bs d) in
-    omega (
-      arith,
-      ap length (write-extents l bs d s v h),
-      place-bound (d .pages) l (l + length bs) new (extents d) (omega arith),
-      runs-length (d .pages) l (placesAt l bs d),
-      length-places l bs d,
-    )
+    omega (arith, ap length (write-extents l bs d s v h), place-bound (d .pages) l (l + length bs) new (extents d) (omega arith))
 
 module _ (l n : ℕ) (d : Device) (s : SoundDevice d) (f : n ≤ free d) (h : l + n ≤ lines d) where
   opens : Opens l (targets l n d) d
@@ -142,14 +141,58 @@ module _ (l n : ℕ) (d : Device) (s : SoundDevice d) (f : n ≤ free d) (h : l 
       go [] e = absurd (omega (arith, ap length e, length-placed l n d))
       go (p ∷ ps) e = runs-first (d .pages) l p ps (λ g. place-some 0 z (ap (λ (xs : List ℕ). getD xs 0 none) e ∙ g))
 
-  -- at most n + 1 more
+  -- at most one more than its pieces
+  pub pieces-bound : length (extents (puts l n d)) ≤ length (extents d) + length (pieces l n d) + 1
+  unfolding puts pieces places
+  pieces-bound = let t = length-targets l n d in puts-bound l (targets l n d) d s opens (omega arith)
+
+  -- so at most n + 1 more
   pub write-bound : length (extents (puts l n d)) ≤ length (extents d) + n + 1
-  unfolding puts
-  write-bound = let t = length-targets l n d in omega (arith, puts-bound l (targets l n d) d s opens (omega arith))
+  unfolding pieces
+  write-bound = omega (arith, pieces-bound, runs-length (d .pages) l (places l n d), length-placed l n d)
 
   -- at most one a line
   pub write-lines : length (extents (puts l n d)) ≤ lines d
   write-lines = omega (arith, extents-lines (puts l n d), puts-all l n d s f h .lines)
+
+  -- ---- 02, T-04: where no block has room for all of them there is more than one piece
+
+  -- its first page is the next of an open block
+  opened : 0 < n → (b : ℕ) × Open d b × (firstPlace l n d ≡ b * d .pages + fill d b)
+  unfolding places placesAt
+  opened z = go (targets l n d) opens refl
+    where
+      go : (bs : List ℕ) → Opens l bs d → targets l n d ≡ bs → (b : ℕ) × Open d b × (firstPlace l n d ≡ b * d .pages + fill d b)
+      go [] v e = absurd (omega (arith, ap length e, length-targets l n d))
+      go (b ∷ bs) v e = (b, v .0, ap (λ (xs : List ℕ). getD (placesAt l xs d) 0 none) e)
+
+  words : WordLines (places l n d)
+  unfolding places
+  words = places-small l (targets l n d) d s opens (omega (arith, length-targets l n d))
+
+  pub split-pieces : 0 < n → (target n d < blocks d → ⊥) → 2 ≤ length (pieces l n d)
+  unfolding pieces lookup
+  split-pieces z unfit = go (pieces-begin z .count) (pieces-begin z .rest) (pieces-begin z .is)
+    where
+      -- a single piece of so many pages lies in one block, which has room for them
+      short : (c : ℕ) → pieces l n d ≡ extent l (firstPlace l n d) c ∷ [] → c < n
+      short c e =
+          let o = opened z in
+          let b = o .0 in
+          let v = o .1 in
+          let rows = subst (Rows (d .pages) l none (l + n)) e (runs-rows (d .pages) (s .some) (places l n d) l (l + n) words (omega (arith, length-placed l n d))) in
+          let at : firstPlace l n d % d .pages ≡ fill d b = ap (λ (x : ℕ). x % d .pages) (o .2) ∙ digits-mod b (v .below) in
+          by-cases (decLt c n)
+          (λ h. h)
+          (λ h. absurd (unfit (target-found n d z b (v .inside) (omega (arith, rows .0 .inside, at, room-other d b (v .other))))))
+
+      go : (c : ℕ) (rest : List Extent) → pieces l n d ≡ extent l (firstPlace l n d) c ∷ rest → 2 ≤ length (pieces l n d)
+      go c (x ∷ xs) e = omega (arith, ap length e)
+      go c [] e =
+          absurd (place-some (n - 1) (omega arith)
+          (sym (runs-lookup (d .pages) (s .some) (places l n d) l (l + (n - 1)) (n - 1) words refl)
+          ∙ ap (λ (es : List Extent). lookup es (l + (n - 1))) e
+          ∙ lookup-after (extent l (firstPlace l n d) c) [] (l + (n - 1)) (omega (arith, short c e))))
 
 -- a write of n pages from line l on
 pub write-grows : (l n : ℕ) (d : Device) → SoundDevice d → 0 < n → n ≤ free d → l + n ≤ lines d

@@ -24,7 +24,7 @@ use Rattle.laws.specs.Picks.{first-passes, first-least, first-found}
 use Rattle.laws.specs.Runs.{runs-page}
 use Rattle.laws.specs.Device.{SoundDevice}
 use Rattle.laws.specs.Balance.{room-other, room-reserve}
-use Rattle.laws.specs.Placed.{Open, Opens, Puts, room-open, puts-sound, length-places}
+use Rattle.laws.specs.Placed.{Open, Opens, Puts, room-open, puts-pages, puts-reserve, puts-sound, length-places}
 use Rattle.laws.specs.Spread.{roomAt, spread, filled, labelled, fitting, startBlock, Leads, spread-step, spread-none, spread-whole, filled-step, filled-none, filled-whole}
 use Rattle.laws.specs.Spread.{spread-skipped, filled-skipped, labelled-join}
 
@@ -385,3 +385,40 @@ pub puts-rise : (l n : ℕ) (d : Device) (c : ℕ) → c < blocks d → fill (pu
 unfolding puts
 puts-rise l n d c h =
     omega (arith, rises l (targets l n d) d c h, ap (λ (k : ℕ). count k (λ i. eqb (getD (targets l n d) i 0) c)) (length-targets l n d))
+
+-- ---- 01's order fills a block before it goes on to the next
+
+room-falls : (l : ℕ) (bs : List ℕ) (d : Device) (c : ℕ) → c < blocks d → room (putsAt l bs d) c ≤ room d c
+unfolding room
+room-falls l bs d c h =
+    by-cases (ℕ-discrete c (d .reserve))
+    (λ e. rw (puts-reserve l bs d, eq-eqb c (d .reserve) e) (omega arith))
+    (λ e. rw (puts-reserve l bs d, puts-pages l bs d, ne-eqb c (d .reserve) e) (omega (arith, rises l bs d c h)))
+
+-- where a block has taken pages, those before it have none left
+turn-lowest : (l n : ℕ) (d : Device) → n ≤ free d → (b c : ℕ) → c < b → b < blocks d → fill d b < fill (putsAt l (inTurn l n d) d) b
+    → room (putsAt l (inTurn l n d) d) c ≡ 0
+unfolding putsAt inTurn
+turn-lowest l zero d f b c h k r = absurd (omega arith)
+turn-lowest l (suc n) d f b c h k r =
+    let e = next l d in
+    let after = putsAt (suc l) (inTurn (suc l) n e) e in
+    let t = target 1 d in
+    let v = target-open d (omega arith) in
+    let size = put-blocks t l d in
+    by-cases (decLt (fill e b) (fill after b))
+    (λ g. turn-lowest (suc l) n e (omega (arith, open-free d t l v)) b c h (omega (arith, size)) g)
+    (λ g. by-cases (ℕ-discrete t b)
+    (λ q. omega (
+      arith,
+      room-falls (suc l) (inTurn (suc l) n e) e c (omega (arith, size)),
+      room-falls l (t ∷ []) d c (omega arith),
+      target-lowest 1 d (omega arith) c (omega arith),
+    ))
+    (λ q. absurd (omega (arith, put-rises t l d b k, ap one (ne-eqb t b q)))))
+
+pub split-lowest : (l n : ℕ) (d : Device) → n ≤ free d → (target n d < blocks d → ⊥) → (b c : ℕ) → c < b → b < blocks d → fill d b < fill (puts l n d) b
+    → room (puts l n d) c ≡ 0
+unfolding puts
+split-lowest l n d f h b c s k r =
+    rw (targets-split l n d h) (turn-lowest l n d f b c s k (rw (targets-split l n d h) at r))

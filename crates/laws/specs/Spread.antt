@@ -101,11 +101,6 @@ module _ (n reserve b f want : ℕ) where
   unfolding taken
   taken-all e h = omega (arith, room-other n reserve b f e)
 
-  -- a block that is open takes some
-  pub taken-open : (b ≡ reserve → ⊥) → f < n → 0 < want → 0 < taken n reserve b f want
-  unfolding taken
-  taken-open e h k = omega (arith, room-other n reserve b f e)
-
 module _ (n reserve f : ℕ) (fs : List ℕ) (b l want : ℕ) where
   pub spread-skip : taken n reserve b f want ≡ 0 → spread n reserve (f ∷ fs) b l want ≡ spread n reserve fs (b + 1) l want
   unfolding spread

@@ -71,7 +71,7 @@ module _ (n reserve blocks : ℕ) (blk : List ℕ) where
   -- ---- the pass over the records
 
   -- before block b none has room for all of `want` pages, and `any` is the first that has room for one, or the number of blocks
-  pub record Passed (want b any : ℕ) : Type 0 where
+  pub record Tried (want b any : ℕ) : Type 0 where
     pub inside : b ≤ blocks
     pub bound : any ≤ blocks
     pub short : (j : ℕ) → j < b → roomOf j < want
@@ -79,8 +79,8 @@ module _ (n reserve blocks : ℕ) (blk : List ℕ) where
     pub some : any < blocks → (any < b) × (0 < roomOf any)
 
   module _ (want b : ℕ) where
-    pub passed-first : b ≡ 0 → Passed want b blocks
-    passed-first e = record {
+    pub tried-first : b ≡ 0 → Tried want b blocks
+    tried-first e = record {
       inside = omega arith;
       bound = omega arith;
       short = λ j h. absurd (omega arith);
@@ -88,11 +88,11 @@ module _ (n reserve blocks : ℕ) (blk : List ℕ) where
       some = λ h. absurd (omega arith);
     }
 
-    module _ (any : ℕ) (p : Passed want b any) (m : ℕ) (t : m ≡ takes n reserve blocks blk b want) where
+    module _ (any : ℕ) (p : Tried want b any) (m : ℕ) (t : m ≡ takes n reserve blocks blk b want) where
       -- one with room for all of them
-      pub passed-found : b < blocks → m ≡ want → b ≡ startBlock n reserve (fillsOf blocks blk) want
+      pub tried-found : b < blocks → m ≡ want → b ≡ startBlock n reserve (fillsOf blocks blk) want
       unfolding startBlock taken
-      passed-found h e =
+      tried-found h e =
           let f = fitting-is want b h (omega arith) (p .short) in
           sym (rw f (rw (lt-ltb b (length (fillsOf blocks blk)) (omega (arith, size))) refl))
 
@@ -104,9 +104,9 @@ module _ (n reserve blocks : ℕ) (blk : List ℕ) where
           (λ a. let e : j ≡ b = omega arith in omega (arith, ap roomOf e))
 
       -- the first with room for one
-      pub passed-some : b < blocks → m < want → 0 < m → any ≡ blocks → Passed want (b + 1) b
+      pub tried-some : b < blocks → m < want → 0 < m → any ≡ blocks → Tried want (b + 1) b
       unfolding taken
-      passed-some h s o e = record {
+      tried-some h s o e = record {
         inside = omega arith;
         bound = omega arith;
         short = next-short s;
@@ -115,9 +115,9 @@ module _ (n reserve blocks : ℕ) (blk : List ℕ) where
       }
 
       -- one without room, or behind it
-      pub passed-next : b < blocks → m < want → (m ≡ 0) ⊎ (any < blocks) → Passed want (b + 1) any
+      pub tried-next : b < blocks → m < want → (m ≡ 0) ⊎ (any < blocks) → Tried want (b + 1) any
       unfolding taken
-      passed-next h s o = record {
+      tried-next h s o = record {
         inside = omega arith;
         bound = p .bound;
         short = next-short s;
@@ -128,9 +128,9 @@ module _ (n reserve blocks : ℕ) (blk : List ℕ) where
       }
 
     -- none with room for all of them
-    pub passed-end : (any : ℕ) → Passed want b any → blocks ≤ b → any ≡ startBlock n reserve (fillsOf blocks blk) want
+    pub tried-end : (any : ℕ) → Tried want b any → blocks ≤ b → any ≡ startBlock n reserve (fillsOf blocks blk) want
     unfolding startBlock
-    passed-end any p h =
+    tried-end any p h =
         let none-fits = fitting-none want (λ j a. p .short j (omega arith)) in
         let any-is : fitting n reserve (fillsOf blocks blk) 1 ≡ any =
         by-cases (decLt any blocks)

@@ -49,8 +49,10 @@ fn start_block(blk: &[u32], blocks: u32, n: u32, reserve: u32, want: u32) -> usi
         if m == want {
             return b;
         }
-        if 0 < m && any == blocks as usize {
-            any = b;
+        if any == blocks as usize {
+            if 0 < m {
+                any = b;
+            }
         }
         b += 1;
     }

@@ -11,6 +11,10 @@ pub enum Fault {
     WriteChangesNothing,
     WritePlacesInTheHighestBlock,
     WritePlacesInTheReserve,
+    WritePlacesInTheFullestBlockWithRoom,
+    WriteNeverFillsABlock,
+    WriteKeepsNothingWhole,
+    WriteIsCutFromTheHighestBlock,
     WriteCountsAnExtentLessInTheLastSlot,
     WriteKeepsTheNumberIn32Bits,
     WriteRefusedUsesTheNumberUp,
@@ -135,12 +139,10 @@ impl<L: Layer> Faulty<L> {
         self.layer.report(head, words).refusal == 0
     }
 
-    /// The lowest and the highest block of which something holds, in a sound state.
-    fn ends(&self, head: Head, words: &Words, holds: impl Fn(u32) -> bool) -> Option<Exchange> {
+    /// The blocks of which something holds, in a sound state.
+    fn blocks(&self, head: Head, words: &Words, holds: impl Fn(u32) -> bool) -> Vec<u32> {
         let blocks = if self.sound(head, words) { 0..head.blocks } else { 0..0 };
-        let mut held = blocks.filter(|&block| holds(block));
-        let first = held.next()?;
-        Some(Exchange { pages: head.pages, blocks: [first, held.last().unwrap_or(first)] })
+        blocks.filter(|&block| holds(block)).collect()
     }
 
     /// The write with what goes into it changed.
@@ -149,6 +151,7 @@ impl<L: Layer> Faulty<L> {
         head: Head,
         words: &mut Words,
         number: u64,
+        (start, count): (u32, u32),
         answer: &mut [u32],
         call: impl Fn(Head, &mut Words, &mut [u32]) -> Outcome,
     ) -> Outcome {
@@ -180,7 +183,12 @@ impl<L: Layer> Faulty<L> {
                 *words = if outcome.refusal == 0 { seen } else { std::mem::take(words) };
                 outcome
             }
-            _ => self.write_elsewhere(head, words, answer, call),
+            Fault::WriteKeepsNothingWhole
+                if call(head, &mut words.clone(), &mut answer.to_vec()).refusal == 0 =>
+            {
+                self.write_in_turn(head, words, number, (start, count), answer)
+            }
+            _ => self.write_elsewhere(head, words, count, answer, call),
         }
     }
 
@@ -189,26 +197,70 @@ impl<L: Layer> Faulty<L> {
         &self,
         head: Head,
         words: &mut Words,
+        count: u32,
         answer: &mut [u32],
         call: impl Fn(Head, &mut Words, &mut [u32]) -> Outcome,
     ) -> Outcome {
-        let filled_to = |block: u32| if block == head.reserve { head.pages } else { fill(words, block) };
-        let open = self.ends(head, words, |block| filled_to(block) < head.pages);
-        let empty = self.ends(head, words, |block| filled_to(block) == 0);
-        let exchange = match (self.fault, open, empty) {
-            (Fault::WritePlacesInTheHighestBlock, Some(open), _) => {
-                open.words(words);
-                open
+        let room = |block: u32| if block == head.reserve { 0 } else { head.pages - fill(words, block) };
+        let least = match self.fault {
+            Fault::WritePlacesInTheHighestBlock | Fault::WriteIsCutFromTheHighestBlock => 1,
+            Fault::WritePlacesInTheReserve => head.pages,
+            _ => count.max(1),
+        };
+        let roomy = self.blocks(head, words, |block| room(block) >= least);
+        let instead = match self.fault {
+            Fault::WritePlacesInTheHighestBlock => roomy.last().copied(),
+            Fault::WriteIsCutFromTheHighestBlock if roomy.iter().all(|&block| room(block) < count) => {
+                roomy.last().copied()
             }
-            (Fault::WritePlacesInTheReserve, _, Some(empty)) => {
-                Exchange { pages: head.pages, blocks: [empty.blocks[0], head.reserve] }
-            }
+            Fault::WritePlacesInTheReserve => roomy.first().map(|_| head.reserve),
+            Fault::WritePlacesInTheFullestBlockWithRoom => roomy.iter().copied().min_by_key(|&b| room(b)),
+            Fault::WriteNeverFillsABlock => roomy.iter().copied().find(|&block| room(block) > count),
+            _ => None,
+        };
+        let exchange = match (roomy.first(), instead) {
+            (Some(&block), Some(instead)) => Exchange { pages: head.pages, blocks: [block, instead] },
             _ => return call(head, words, answer),
         };
+        if instead != Some(head.reserve) {
+            exchange.words(words);
+        }
         let outcome = call(head, words, answer);
         exchange.words(words);
         exchange.answer(answer, outcome.count, 3);
         outcome
+    }
+
+    /// The write page by page, so that a piece ends with its block, though another has
+    /// room for all.
+    fn write_in_turn(
+        &self,
+        head: Head,
+        words: &mut Words,
+        number: u64,
+        (start, count): (u32, u32),
+        answer: &mut [u32],
+    ) -> Outcome {
+        let (mut after, mut written, mut page) = (head, words.clone(), [0; 3]);
+        let mut pieces: Vec<[u32; 3]> = Vec::new();
+        for l in start..start + count {
+            let one = Head { last: head.last, ..after };
+            let outcome = self.layer.write(one, &mut written, number, l, 1, &mut page);
+            if outcome.refusal != 0 {
+                return Outcome { head, ..outcome };
+            }
+            after = outcome.head;
+            match pieces.last_mut() {
+                Some([_, first, count]) if *first / head.pages == page[1] / head.pages => *count += 1,
+                _ => pieces.push(page),
+            }
+        }
+        if answer.len() < 3 * pieces.len() {
+            return Outcome { refusal: Refusal::OutShort.number(), count: 0, head };
+        }
+        *words = written;
+        answer.iter_mut().zip(pieces.concat()).for_each(|(word, listed)| *word = listed);
+        Outcome { refusal: 0, count: pieces.len() as u32, head: after }
     }
 
     /// The reclaim, of the highest block on a tie if that is the fault.
@@ -216,8 +268,11 @@ impl<L: Layer> Faulty<L> {
         let stale = |block: u32| fill(words, block) - valid(words, block);
         let most =
             |block: u32| stale(block) > 0 && (0..head.blocks).all(|other| stale(other) <= stale(block));
-        let exchange = match self.ends(head, words, most) {
-            Some(tied) if self.fault == Fault::ReclaimPicksTheHighestOnATie => tied,
+        let tied = self.blocks(head, words, most);
+        let exchange = match (tied.first(), tied.last()) {
+            (Some(&first), Some(&last)) if self.fault == Fault::ReclaimPicksTheHighestOnATie => {
+                Exchange { pages: head.pages, blocks: [first, last] }
+            }
             _ => return self.layer.reclaim(head, words, answer),
         };
         exchange.words(words);
@@ -264,7 +319,7 @@ impl<L: Layer> Layer for Faulty<L> {
         let call = |head: Head, words: &mut Words, answer: &mut [u32]| {
             self.layer.write(head, words, number, start, count, answer)
         };
-        let mut outcome = self.write_of(head, words, number, answer, call);
+        let mut outcome = self.write_of(head, words, number, (start, count), answer, call);
         let after = &mut outcome.head;
         match (self.fault, outcome.refusal) {
             (Fault::WriteCountsAnExtentLessInTheLastSlot, 0) if after.used == after.slots => after.used -= 1,

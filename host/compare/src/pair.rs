@@ -251,15 +251,17 @@ impl<L: Layer + Clone> History<L> {
     }
 }
 
-/// A fresh device of up to so many blocks and pages, and so many sound states along a
-/// random history of it.
+/// A fresh device of up to so many blocks and pages, or one that was written in order,
+/// and so many sound states along a random history of it.
 pub fn states<L: Layer + Clone>(
     layer: &L,
     random: &mut Random,
     most: u32,
     count: u32,
 ) -> Tried<Vec<History<L>>> {
-    let mut history = History::of(layer.clone(), &[generate::sizes(random, most, most)])?;
+    let fresh = generate::sizes(random, most, most);
+    let begun = if random.once_in(2) { vec![fresh] } else { generate::in_order(fresh) };
+    let mut history = History::of(layer.clone(), &begun)?;
     let mut states = vec![history.clone()];
     for _ in 0..count {
         let calls = random.between(1, 15);

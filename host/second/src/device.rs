@@ -202,13 +202,30 @@ impl Device {
         victim
     }
 
-    /// Takes pages one at a time for a write and programs them. Free pages must
-    /// suffice. Returns one piece per block used.
+    /// Takes pages for a write and programs them; free pages must suffice. Returns one
+    /// piece per block used. 02, T-04: all from the lowest-numbered block outside the
+    /// reserve that has room for all of them; only if there is none, in 01's order.
     fn place(&mut self, start: u32, count: u32) -> Vec<Extent> {
+        match self.roomy_block(0, count) {
+            Some(block) => {
+                let physical = block * self.pages + self.fills[block as usize];
+                (start..start + count).for_each(|l| {
+                    self.program(block, l);
+                });
+                vec![Extent { logical: start, physical, count }]
+            }
+            None => self.place_in_turn(start, count),
+        }
+    }
+
+    /// 01: pages are taken one at a time from the lowest-numbered block, not the
+    /// reserve, whose fill is below N.
+    fn place_in_turn(&mut self, start: u32, count: u32) -> Vec<Extent> {
         let mut pieces: Vec<Extent> = Vec::new();
         let mut last_block = None;
         for l in start..start + count {
-            let block = self.open_block(last_block.unwrap_or(0));
+            // No block below one that took a page has room.
+            let block = self.roomy_block(last_block.unwrap_or(0), 1).expect("a free page");
             let page = self.program(block, l);
             match pieces.last_mut() {
                 Some(piece) if last_block == Some(block) => piece.count += 1,
@@ -219,12 +236,11 @@ impl Device {
         pieces
     }
 
-    /// The lowest-numbered block, not the reserve, whose fill is below N. No
-    /// block below `from` may be one.
-    fn open_block(&self, from: u32) -> u32 {
-        (from..self.blocks)
-            .find(|&block| block != self.reserve && self.fills[block as usize] < self.pages)
-            .expect("a free page")
+    /// The lowest-numbered block from `from` on, not the reserve, that has room for so
+    /// many pages.
+    fn roomy_block(&self, from: u32, count: u32) -> Option<u32> {
+        let has_room = |block: u32| self.pages - self.fills[block as usize] >= count;
+        (from..self.blocks).find(|&block| block != self.reserve && has_room(block))
     }
 
     /// Maps a logical page to the next page of a block and labels it.

@@ -100,6 +100,20 @@ pub fn filled(random: &mut Random, fresh: Request) -> Vec<Request> {
     history
 }
 
+/// A history that writes every logical page in order, a block's worth at a time: each
+/// extent goes on, over a block's edge, where the one before ends.
+pub fn in_order(fresh: Request) -> Vec<Request> {
+    let (pages, logical) = match fresh {
+        Request::Fresh { pages, logical, .. } => (pages, logical),
+        _ => return vec![fresh],
+    };
+    let mut history = vec![fresh, Request::Room { words: 3 }];
+    for (number, start) in (1..).zip((0..logical).step_by(pages as usize)) {
+        history.push(Request::Write { number, start, count: pages.min(logical - start) });
+    }
+    history
+}
+
 /// A run of live pages and the stale ones behind it, all in one block.
 #[derive(Clone, Copy)]
 struct Run {
