@@ -15,7 +15,7 @@ fn main() -> ExitCode {
             warn_of_emulation();
             print(calls::table(&calls::SAMPLES));
             print(growth::table(&growth::SAMPLES));
-            print(map::table(false));
+            map::tables(false).into_iter().for_each(print);
             return print_or_say(size::table(size::LINKED));
         }
         ["calls"] => {
@@ -26,7 +26,7 @@ fn main() -> ExitCode {
             warn_of_emulation();
             print(growth::table(&growth::SAMPLES));
         }
-        ["map"] => print(map::table(false)),
+        ["map"] => map::tables(false).into_iter().for_each(print),
         ["size"] => {
             warn_of_emulation();
             return print_or_say(size::table(size::LINKED));
@@ -37,7 +37,7 @@ fn main() -> ExitCode {
             let few = |sample: &Sample| Sample { rounds: 51, ..*sample };
             print(calls::table(&calls::SAMPLES[..4].iter().map(few).collect::<Vec<_>>()));
             print(growth::table(&growth::SAMPLES[..1].iter().map(few).collect::<Vec<_>>()));
-            print(map::table(true));
+            map::tables(true).into_iter().for_each(print);
             return print_or_say(size::table(size::LINKED));
         }
         _ => {

@@ -65,7 +65,8 @@ returns-2 c =
 pieces-of-requires : tie.Need-pieces-of-requires
 pieces-of-requires c κs =
     let s = start (c .before .before .before .before .before) in
-    (omega (arith, s .pre .0 .blocks), start-le (s .args .h .pages) (s .args .h .reserve) (s .args .h .blocks) (s .args .blk .now) (s .args .n) (s .args .m .from) (s .pre .2 .from))
+    let h = s .args .h in
+    (omega (arith, s .pre .0 .blocks), omega (arith, start-le (h .pages) (h .reserve) (h .blocks) (s .args .blk .now) (s .args .n) (s .args .m .from) (s .pre .2 .from)))
 
 nodes-after-requires : tie.Need-nodes-after-requires
 nodes-after-requires c κs =
