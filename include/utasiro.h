@@ -99,9 +99,9 @@
 extern "C" {
 #endif
 
-/* The version of this header, 0.1.0 as 100. utasiro_version gives that of the library that is linked. */
+/* The version of this header, 0.2.0 as 200. utasiro_version gives that of the library that is linked. */
 #define UTASIRO_VERSION_MAJOR 0
-#define UTASIRO_VERSION_MINOR 1
+#define UTASIRO_VERSION_MINOR 2
 #define UTASIRO_VERSION_PATCH 0
 #define UTASIRO_VERSION (UTASIRO_VERSION_MAJOR * 10000 + UTASIRO_VERSION_MINOR * 100 + UTASIRO_VERSION_PATCH)
 
@@ -216,7 +216,9 @@ utasiro_outcome utasiro_fresh(uint32_t blocks, uint32_t pages, uint32_t logical,
  * sent again is applied once. A refused request does not use its number up.
  * Lent: the state, and an answer buffer of three words a piece; UTASIRO_WRITE_WORDS(count) suffice.
  * Comes back: count pieces in answer, each three words: logical start, physical start,
- * page count, one piece for each block used.
+ * page count, one piece for each block used. All pages go into the lowest-numbered block
+ * outside the reserve that has room for them, as one piece; only where no block has are they
+ * cut: each goes into the lowest-numbered block, not the reserve, that is not full.
  * Refusals: 1 Shape, 2 Damaged, 3 Range, 4 Applied, 5 NoPages, 6 NoNodes, 7 OutShort.
  * Then: the host programs the pages of each piece, in order, saves the state, and only
  * then acknowledges the request.

@@ -2,7 +2,7 @@
 -- each page. This file and Placement.antt of `rules` know it; everything else goes by what is shown here. Each page lands in a block that is open when its
 -- page comes (`targets-open`); the order reads the fills, the reserve and N alone (`targets-same`); and page by page gives what the blocks in turn give from the
 -- block on that the write starts with, each with what it has room for (Spread).
-use Prim.Native.Nat.{ℕ, zero, suc, _+_, _*_, _≤_, _<_}
+use Prim.Native.Nat.{ℕ, zero, suc, _+_, _*_, _≤_, _<_, min}
 use mathlib.Core.Path.{_≡_, refl, sym, ap, ap₂, _∙_, subst}
 use mathlib.Core.List.{List, [], _∷_, _++_}
 use mathlib.Core.Bool.{Bool, not, cond, _&&_}
@@ -275,7 +275,8 @@ turn-fills (suc n) l d f =
 
 fitting-target : (m : ℕ) (d : Device) → 0 < m → fitting (d .pages) (d .reserve) (d .fills) m ≡ target m d
 unfolding fitting target
-fitting-target m d s = λ i. first (blocks d) (λ b. (ap (leb m) (room-at d b) ∙ sym (takes-room m d b s)) i)
+fitting-target m d s =
+    λ i. first (blocks d) (λ b. (ap₂ _&&_ (lt-ltb 0 m s) (ap (leb m) (room-at d b) ∙ sym (takes-room m d b s))) i)
 
 module _ (n : ℕ) (d : Device) (some : 0 < n) where
   abbrev start : ℕ
@@ -291,7 +292,8 @@ module _ (n : ℕ) (d : Device) (some : 0 < n) where
   unfolding startBlock
   start-split h =
       let e = fitting-target n d some in
-      rw e (rw (le-ltb (target n d) (blocks d) (omega arith)) (fitting-target 1 d (omega arith)))
+      let one : min n 1 ≡ 1 = omega arith in
+      rw e (rw (le-ltb (target n d) (blocks d) (omega arith), one) (fitting-target 1 d (omega arith)))
 
   -- where pages are free, it is one of the device's
   pub start-inside : n ≤ free d → start < blocks d

@@ -3,7 +3,7 @@
 use Prim.Native.Nat.{ℕ, zero, suc, _+_, _-_, _*_, _/_, _≤_, _<_, min}
 use mathlib.Core.Path.{_≡_, refl, sym, ap, ap₂, _∙_}
 use mathlib.Core.List.{List, [], _∷_, _++_}
-use mathlib.Core.Bool.{cond}
+use mathlib.Core.Bool.{cond, _&&_}
 use mathlib.Core.Logic.{by-cases}
 use native.Mathlib.Omega.{arith}
 use native.Mathlib.Decide.{decLt}
@@ -27,13 +27,13 @@ roomAt n reserve b f = cond (eqb b reserve) 0 (n - f)
 unfoldable pub taken : ℕ → ℕ → ℕ → ℕ → ℕ → ℕ
 taken n reserve b f want = min (roomAt n reserve b f) want
 
--- the first block that has room for m pages, or the number of blocks where none has
+-- the first block that has room for m pages, one or more, or the number of blocks where none has
 unfoldable pub fitting : ℕ → ℕ → List ℕ → ℕ → ℕ
-fitting n reserve fs m = first (length fs) (λ b. leb m (roomAt n reserve b (getD fs b 0)))
+fitting n reserve fs m = first (length fs) (λ b. ltb 0 m && leb m (roomAt n reserve b (getD fs b 0)))
 
 -- the block that `want` pages start with: the first that has room for all of them or, where none has, the first that has room for one
 unfoldable pub startBlock : ℕ → ℕ → List ℕ → ℕ → ℕ
-startBlock n reserve fs want = cond (ltb (fitting n reserve fs want) (length fs)) (fitting n reserve fs want) (fitting n reserve fs 1)
+startBlock n reserve fs want = cond (ltb (fitting n reserve fs want) (length fs)) (fitting n reserve fs want) (fitting n reserve fs (min want 1))
 
 -- an extent in front of others; of no pages it is none
 unfoldable pub withPiece : Extent → List Extent → List Extent

@@ -17,11 +17,11 @@ fn room_in(blk: &[u32], b: usize, n: u32, reserve: u32, want: u32) -> u32
     requires { ⌜ HasBlock (now blk) b ⌝ }
     ensures { λ r. ⌜ r ≡ taken n reserve b (fillWord (now (blk .entry)) b) want ⌝ }
 {
-    if b == reserve as usize {
-        return 0;
-    }
     let fill = words::fill_of(blk, b);
     if n <= fill {
+        return 0;
+    }
+    if b == reserve as usize {
         return 0;
     }
     if n - fill < want {
@@ -37,7 +37,7 @@ pub struct Start {
 }
 
 // The block that `want` pages start with: the first that has room for all of them or, where none has, the first that has room for one. Where no block
-// has, it is the one behind the last.
+// has, and for no pages, it is the one behind the last.
 fn start_block(blk: &[u32], blocks: u32, n: u32, reserve: u32, want: u32) -> usize
     requires { ⌜ stride * blocks ≤ length (now blk) ⌝ }
     ensures { λ r. ⌜ r ≡ startBlock n reserve (fillsOf blocks (now (blk .entry))) want ⌝ }
@@ -46,11 +46,11 @@ fn start_block(blk: &[u32], blocks: u32, n: u32, reserve: u32, want: u32) -> usi
     let mut b: usize = 0;
     while b < blocks as usize {
         let m = room_in(blk, b, n, reserve, want);
-        if m == want {
-            return b;
-        }
-        if any == blocks as usize {
-            if 0 < m {
+        if 0 < m {
+            if m == want {
+                return b;
+            }
+            if any == blocks as usize {
                 any = b;
             }
         }

@@ -7,9 +7,14 @@ use second::Words;
 use crate::lent::{black_box, median, Call, Kind, Lent, Sample};
 use crate::progress;
 
-/// The same device with few extents and with many.
-pub const SAMPLES: [Sample; 4] =
-    [Sample { extents: 16, ..FULL }, Sample { extents: 512, ..FULL }, Sample { extents: 2048, ..FULL }, FULL];
+/// The same device with few extents and with many, and one of the most blocks.
+pub const SAMPLES: [Sample; 5] = [
+    Sample { extents: 16, ..FULL },
+    Sample { extents: 512, ..FULL },
+    Sample { extents: 2048, ..FULL },
+    FULL,
+    Sample { blocks: 1024, extents: 2044, ..FULL },
+];
 
 /// All slots are in use. The extents are of one page each, so a write covers more of them
 /// than it adds.
@@ -104,7 +109,8 @@ fn measure(sample: &Sample) -> (f64, [f64; ROWS.len()]) {
 
 /// The table, as lines of Markdown: a row for each call, a column for each sample.
 pub fn table(samples: &[Sample]) -> Vec<String> {
-    let used: Vec<String> = samples.iter().map(|sample| Lent::of(sample).head.used.to_string()).collect();
+    let named = |sample: &Sample| format!("{} in {} blocks", Lent::of(sample).head.used, sample.blocks);
+    let used: Vec<String> = samples.iter().map(named).collect();
     let mut columns = Vec::new();
     for (sample, used) in samples.iter().zip(&used) {
         progress::show(&format!("growth: {used} extents"));

@@ -186,11 +186,14 @@ fn put_runs(device: &mut Device, runs: &[Run]) {
 /// physical ones rise. The last two blocks are empty, one of them the reserve. The sizes
 /// must be those of document 01.
 pub fn scattered(blocks: u32, pages: u32, logical: u32, slots: u32, extents: u32) -> (Head, Words) {
-    nearly_full(blocks, pages, logical, slots, extents, 0)
+    let mut device = Device::fresh(blocks, pages, logical, slots);
+    let runs = equal_runs(&device, extents, 0);
+    put_runs(&mut device, &runs);
+    words_of(&device)
 }
 
-/// As [`scattered`], but so many pages of each block, fewer than it has, stay free: a write
-/// of more falls into pieces.
+/// As [`scattered`], but so many pages of each block, fewer than it has, are free, and the
+/// reserve alone is empty: a write of more falls into pieces.
 pub fn nearly_full(
     blocks: u32,
     pages: u32,
@@ -202,6 +205,12 @@ pub fn nearly_full(
     let mut device = Device::fresh(blocks, pages, logical, slots);
     let runs = equal_runs(&device, extents, free);
     put_runs(&mut device, &runs);
+    for block in (0..blocks).filter(|&block| block != device.reserve) {
+        let fill = &mut device.fills[block as usize];
+        let stale = block * pages + *fill..(block + 1) * pages - free;
+        stale.for_each(|page| device.spare[page as usize] = 0);
+        *fill = pages - free;
+    }
     words_of(&device)
 }
 

@@ -54,9 +54,10 @@ impl<'a> Borrowed<'a> {
     }
 
     /// Writes `count` logical pages from `start` on, 1 to N of them. `number` must be above that
-    /// of every write and trim accepted before. The host then programs the pages of each piece,
-    /// in order, saves the state, and only then acknowledges the request. An answer buffer of
-    /// three words a page is long enough.
+    /// of every write and trim accepted before. All pages go into the lowest-numbered block outside
+    /// the reserve that has room for them, as one piece; only where no block has are they cut. The
+    /// host then programs the pages of each piece, in order, saves the state, and only then
+    /// acknowledges the request. An answer buffer of three words a page is long enough.
     pub fn write<'b>(
         &mut self,
         number: u64,

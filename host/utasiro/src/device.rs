@@ -48,19 +48,24 @@ impl Device {
     }
 
     /// Writes `count` logical pages from `start` on, 1 to N of them. `number` must
-    /// be above that of every write and trim accepted before. The host then
-    /// programs the pages of each piece, in order, saves the device, and only then
-    /// acknowledges the request.
+    /// be above that of every write and trim accepted before. All pages go into the
+    /// lowest-numbered block outside the reserve that has room for them, as one piece;
+    /// only where no block has are they cut. The host then programs the pages of each
+    /// piece, in order, saves the device, and only then acknowledges the request.
     ///
     /// ```
     /// # use utasiro::{Device, Piece, Refusal, Sizes};
     /// # let mut device = Device::fresh(Sizes { blocks: 4, pages: 16, logical: 32, slots: 16 })?;
     /// device.write(1, 0, 10)?;
+    /// // Block 0 has no room for all 16 pages, block 1 has.
     /// let pieces = device.write(2, 10, 16)?;
-    /// let first = Piece { logical: 10, physical: 10, count: 6 };
-    /// let second = Piece { logical: 16, physical: 16, count: 10 };
-    /// assert_eq!(pieces, [first, second]);
-    /// assert_eq!(device.write(3, 16, 17), Err(Refusal::Range));
+    /// assert_eq!(pieces, [Piece { logical: 10, physical: 16, count: 16 }]);
+    /// // No block but the reserve has room for nine: from the lowest-numbered block on.
+    /// device.write(3, 0, 11)?;
+    /// let first = Piece { logical: 0, physical: 10, count: 6 };
+    /// let second = Piece { logical: 6, physical: 43, count: 3 };
+    /// assert_eq!(device.write(4, 0, 9)?, [first, second]);
+    /// assert_eq!(device.write(5, 16, 17), Err(Refusal::Range));
     /// # Ok::<(), Refusal>(())
     /// ```
     pub fn write(&mut self, number: u64, start: u32, count: u32) -> Result<Vec<Piece>, Refusal> {

@@ -91,8 +91,8 @@ pub const HOLE: u32 = 4_294_967_295;
 /// The label of an erased page.
 pub const ERASED: u32 = 4_294_967_295;
 
-/// The version that this crate was written for, 0.1.0 as 100.
-pub const VERSION: u32 = 100;
+/// The version that this crate was written for, 0.2.0 as 200.
+pub const VERSION: u32 = 200;
 
 /// The version of the library that is linked.
 ///

@@ -6,13 +6,10 @@ use Rattle.placing.proofs.room_in.Statement.{statement}
 use Rattle.placing.proofs.room_in.Tie as tie
 
 returns : tie.Need-returns
-returns c = sym (taken-reserve _ _ _ _ _ (omega arith))
-
-fill-of-requires : tie.Need-fill-of-requires
-fill-of-requires c κs = search needs
+returns c = sym (taken-full _ _ _ _ _ (omega arith))
 
 returns-2 : tie.Need-returns-2
-returns-2 c = sym (taken-full _ _ _ _ _ (omega arith))
+returns-2 c = sym (taken-reserve _ _ _ _ _ (omega arith))
 
 sub-if3 : tie.Need-sub-if3
 sub-if3 c = search needs
@@ -28,4 +25,4 @@ returns-4 c = sym (taken-all _ _ _ _ _ (omega arith) (omega arith))
 
 pub room-in-spec : {M : Type 1} → statement M
 room-in-spec =
-    tie.close (tie.spec returns fill-of-requires returns-2 sub-if3 sub-result returns-3 returns-4)
+    tie.close (tie.spec (λ c κs. search needs) returns returns-2 sub-if3 sub-result returns-3 returns-4)

@@ -20,27 +20,29 @@ loop-holds c = tried-first _ _ _ _ _ _ (omega arith)
 
 returns : tie.Need-returns Inv-loop μ-loop
 returns c =
-    let r = c .before .room-in in
-    let w = c .before .before .before in
-    let i = w .loop in
-    let v = w .before .before .args in
-    tried-found (v .n) (v .reserve) (v .blocks) (v .blk .now) (v .want) (i .b) (i .any) (i .inv) (r .result) (r .ensures) (omega arith) (omega arith)
-
-loop-again : tie.Need-loop-again Inv-loop μ-loop
-loop-again c =
     let r = c .before .before .room-in in
     let w = c .before .before .before .before in
     let i = w .loop in
     let v = w .before .before .args in
+    tried-found (v .n) (v .reserve) (v .blocks) (v .blk .now) (v .want) (i .b) (i .any) (i .inv) (r .result) (r .ensures) (omega arith) (omega arith) (omega arith)
+
+loop-again : tie.Need-loop-again Inv-loop μ-loop
+loop-again c =
+    let r = c .before .room-in in
+    let w = c .before .before .before in
+    let i = w .loop in
+    let v = w .before .before .args in
     let law = taken-le (v .n) (v .reserve) (i .b) (fillWord (v .blk .now) (i .b)) (v .want) in
-    let short : r .result < v .want = omega (arith, law, r .ensures) in
     let inside : i .b < v .blocks = omega arith in
     let P = Tried (v .n) (v .reserve) (v .blocks) (v .blk .now) (v .want) (i .b + 1) in
-    let next = tried-next (v .n) (v .reserve) (v .blocks) (v .blk .now) (v .want) (i .b) (i .any) (i .inv) (r .result) (r .ensures) inside short in
+    let next = tried-next (v .n) (v .reserve) (v .blocks) (v .blk .now) (v .want) (i .b) (i .any) (i .inv) (r .result) (r .ensures) inside in
     ⊎-elim
-    (λ t. subst P (sym (t .2)) (tried-some (v .n) (v .reserve) (v .blocks) (v .blk .now) (v .want) (i .b) (i .any) (i .inv) (r .result) (r .ensures) inside short (omega arith) (omega arith)))
-    (⊎-elim (λ t. subst P (sym (t .2)) (next (inl (omega arith)))) (λ t. subst P (sym (t .1)) (next (inr (omega (arith, i .inv .bound))))))
-    (c .if2 .came)
+    (λ t. subst P (sym (t .3)) (tried-some (v .n) (v .reserve) (v .blocks) (v .blk .now) (v .want) (i .b) (i .any) (i .inv) (r .result) (r .ensures) inside
+    (omega (arith, law, r .ensures)) (omega arith) (omega arith)))
+    (⊎-elim
+    (λ t. subst P (sym (t .3)) (next (inr (omega (arith, law, r .ensures), omega (arith, i .inv .bound)))))
+    (λ t. subst P (sym (t .1)) (next (inl (omega arith)))))
+    (c .if1 .came)
 
 returns-2 : tie.Need-returns-2 Inv-loop μ-loop
 returns-2 c =
