@@ -19,7 +19,8 @@ use Rattle.laws.specs.Records.{records-fill}
 use Rattle.laws.specs.Sound.{Storable}
 use Rattle.laws.specs.Placed.{puts-pages, puts-reserve}
 use Rattle.laws.specs.States.{device-blocks, device-fill}
-use Rattle.laws.specs.Order.{target-room, target-found, target-lowest, puts-all, whole-piece, split-lowest}
+use Rattle.laws.specs.Order.{target-room, target-found, target-lowest, puts-all, whole-piece}
+use Rattle.laws.specs.Rises.{split-lowest}
 use Rattle.laws.specs.Growth.{pieces-bound, split-pieces}
 use Rattle.laws.specs.Kept.{WriteTaken, refusal-taken, accepted-in, device-storable, device-is}
 use Rattle.demands.specs.Refusals.{answers}

@@ -18,6 +18,7 @@ pub mod Balance
 pub mod Placed
 pub mod Spread
 pub mod Order
+pub mod Rises
 pub mod Lines
 pub mod Reclaimed
 pub mod Gains

@@ -14,17 +14,17 @@ use lib.Arith.{digits-lt}
 use lib.Dec.{eqb, ltb, leb}
 use lib.ListN.{length, getD, set, take, drop, replicate, length-set, length-replicate}
 use lib.Seq.{drop-cons, set-split, getD-set-same, getD-set-other, set-set, set-getD}
-use Rattle.rules.specs.Counting.{one, count, first}
+use Rattle.rules.specs.Counting.{first}
 use Rattle.rules.specs.Extents.{none, extent, join, runs}
 use Rattle.rules.specs.Device.{Device, blocks, lines, fill, room, free}
 use Rattle.rules.specs.Placement.{putAt, putsAt, placesAt, target, inTurn, targets, puts, places, pieces}
 use Rattle.rules.specs.declared.Extent.{Extent}
-use Rattle.laws.specs.Sums.{sum-change, sum-zero, count-first}
+use Rattle.laws.specs.Sums.{sum-change, sum-zero}
 use Rattle.laws.specs.Picks.{first-passes, first-least, first-found}
 use Rattle.laws.specs.Runs.{runs-page}
 use Rattle.laws.specs.Device.{SoundDevice}
 use Rattle.laws.specs.Balance.{room-other, room-reserve}
-use Rattle.laws.specs.Placed.{Open, Opens, Puts, room-open, puts-pages, puts-reserve, puts-sound, length-places}
+use Rattle.laws.specs.Placed.{Open, Opens, Puts, room-open, puts-sound, length-places}
 use Rattle.laws.specs.Spread.{roomAt, spread, filled, labelled, fitting, startBlock, Leads, spread-step, spread-none, spread-whole, filled-step, filled-none, filled-whole}
 use Rattle.laws.specs.Spread.{spread-skipped, filled-skipped, labelled-join}
 
@@ -81,9 +81,9 @@ room-at : (d : Device) (b : ℕ) → roomAt (d .pages) (d .reserve) b (fill d b)
 unfolding roomAt room
 room-at d b = refl
 
-put-blocks : (b l : ℕ) (d : Device) → blocks (putAt b l d) ≡ blocks d
+pub blocks-put : (b l : ℕ) (d : Device) → blocks (putAt b l d) ≡ blocks d
 unfolding putAt
-put-blocks b l d = length-set (d .fills) b (suc (fill d b))
+blocks-put b l d = length-set (d .fills) b (suc (fill d b))
 
 module _ (d : Device) (b l : ℕ) (v : Open d b) where
   open-fill : fill (putAt b l d) b ≡ suc (fill d b)
@@ -94,7 +94,7 @@ module _ (d : Device) (b l : ℕ) (v : Open d b) where
   unfolding putAt
   open-room = omega (arith, open-fill, room-other (putAt b l d) b (v .other), room-other d b (v .other), v .below)
 
-  open-free : free (putAt b l d) + 1 ≡ free d
+  pub open-free : free (putAt b l d) + 1 ≡ free d
   unfolding free putAt
   open-free =
       let e = putAt b l d in
@@ -141,7 +141,7 @@ block-open : (b l n : ℕ) (d : Device) → b < blocks d → n ≤ room d b → 
 block-open b l zero d h r = tt
 block-open b l (suc n) d h r =
     let v = room-open d b h (omega arith) in
-    (v, block-open b (suc l) n (putAt b l d) (omega (arith, put-blocks b l d)) (omega (arith, open-room d b l v)))
+    (v, block-open b (suc l) n (putAt b l d) (omega (arith, blocks-put b l d)) (omega (arith, open-room d b l v)))
 
 turn-open : (l n : ℕ) (d : Device) → n ≤ free d → Opens l (inTurn l n d) d
 unfolding inTurn
@@ -204,7 +204,7 @@ module _ (b : ℕ) where
       } in
       spread-step (d .pages) (d .reserve) (fill d b ∷ []) b 0 l n page leads (sym (ap (λ (x : ℕ). x * d .pages + fill d b) z))
       ∙ ap (λ (f : ℕ). join (d .pages) (extent l page 1) (spread (d .pages) (d .reserve) (f ∷ []) b (suc l) n)) (sym (open-fill d b l v))
-      ∙ ap (join (d .pages) (extent l page 1)) (block-pieces n (suc l) (putAt b l d) (put-words b l d w) (omega (arith, put-blocks b l d)) (omega (arith, open-room d b l v)))
+      ∙ ap (join (d .pages) (extent l page 1)) (block-pieces n (suc l) (putAt b l d) (put-words b l d w) (omega (arith, blocks-put b l d)) (omega (arith, open-room d b l v)))
       ∙ sym (runs-page (d .pages) l page (placesAt (suc l) (replicate n b) (putAt b l d)) (open-page d b l v w))
 
   block-fills : (n l : ℕ) (d : Device) → b < blocks d → n ≤ room d b → putsAt l (replicate n b) d .fills ≡ set (d .fills) b (fill d b + n)
@@ -213,7 +213,7 @@ module _ (b : ℕ) where
   block-fills (suc n) l d h r =
       let v = room-open d b h (omega arith) in
       let z : fill (putAt b l d) b + n ≡ fill d b + suc n = omega (arith, open-fill d b l v) in
-      block-fills n (suc l) (putAt b l d) (omega (arith, put-blocks b l d)) (omega (arith, open-room d b l v))
+      block-fills n (suc l) (putAt b l d) (omega (arith, blocks-put b l d)) (omega (arith, open-room d b l v))
       ∙ ap (set (putAt b l d .fills) b) z ∙ (unfold putAt in set-set (d .fills) b (suc (fill d b)) (fill d b + suc n))
 
 -- 02, T-04: what is kept whole is one piece
@@ -356,71 +356,3 @@ opens-labelled l (b ∷ bs) d w v =
 pub puts-labelled : (n l : ℕ) (d : Device) → blocks d * d .pages ≤ none → n ≤ free d → puts l n d .spare ≡ labelled (pieces l n d) (d .spare)
 unfolding puts pieces places
 puts-labelled n l d w f = opens-labelled l (targets l n d) d w (targets-open l n d f)
-
--- ---- a fill rises by the pages that its block takes
-
-put-rises : (b l : ℕ) (d : Device) (c : ℕ) → c < blocks d → fill (putAt b l d) c ≡ fill d c + one (eqb b c)
-unfolding putAt
-put-rises b l d c h =
-    by-cases (ℕ-discrete c b)
-    (λ e. omega (
-      arith,
-      ap (λ (x : ℕ). getD (set (d .fills) b (suc (fill d b))) x 0) e,
-      getD-set-same (d .fills) b (suc (fill d b)) 0 (omega arith),
-      ap (fill d) e,
-      ap one (eq-eqb b c (sym e)),
-    ))
-    (λ e. omega (arith, getD-set-other (d .fills) b c (suc (fill d b)) 0 e, ap one (ne-eqb b c (λ g. e (sym g)))))
-
-rises : (l : ℕ) (bs : List ℕ) (d : Device) (c : ℕ) → c < blocks d → fill (putsAt l bs d) c ≡ fill d c + count (length bs) (λ i. eqb (getD bs i 0) c)
-unfolding putsAt count
-rises l [] d c h = omega arith
-rises l (b ∷ bs) d c h =
-    omega (
-      arith,
-      rises (suc l) bs (putAt b l d) c (rw (put-blocks b l d) h),
-      put-rises b l d c h,
-      count-first (length bs) (λ i. eqb (getD (b ∷ bs) i 0) c),
-    )
-
-pub puts-rise : (l n : ℕ) (d : Device) (c : ℕ) → c < blocks d → fill (puts l n d) c ≡ fill d c + count n (λ i. eqb (getD (targets l n d) i 0) c)
-unfolding puts
-puts-rise l n d c h =
-    omega (arith, rises l (targets l n d) d c h, ap (λ (k : ℕ). count k (λ i. eqb (getD (targets l n d) i 0) c)) (length-targets l n d))
-
--- ---- 01's order fills a block before it goes on to the next
-
-room-falls : (l : ℕ) (bs : List ℕ) (d : Device) (c : ℕ) → c < blocks d → room (putsAt l bs d) c ≤ room d c
-unfolding room
-room-falls l bs d c h =
-    by-cases (ℕ-discrete c (d .reserve))
-    (λ e. rw (puts-reserve l bs d, eq-eqb c (d .reserve) e) (omega arith))
-    (λ e. rw (puts-reserve l bs d, puts-pages l bs d, ne-eqb c (d .reserve) e) (omega (arith, rises l bs d c h)))
-
--- where a block has taken pages, those before it have none left
-turn-lowest : (l n : ℕ) (d : Device) → n ≤ free d → (b c : ℕ) → c < b → b < blocks d → fill d b < fill (putsAt l (inTurn l n d) d) b
-    → room (putsAt l (inTurn l n d) d) c ≡ 0
-unfolding putsAt inTurn
-turn-lowest l zero d f b c h k r = absurd (omega arith)
-turn-lowest l (suc n) d f b c h k r =
-    let e = next l d in
-    let after = putsAt (suc l) (inTurn (suc l) n e) e in
-    let t = target 1 d in
-    let v = target-open d (omega arith) in
-    let size = put-blocks t l d in
-    by-cases (decLt (fill e b) (fill after b))
-    (λ g. turn-lowest (suc l) n e (omega (arith, open-free d t l v)) b c h (omega (arith, size)) g)
-    (λ g. by-cases (ℕ-discrete t b)
-    (λ q. omega (
-      arith,
-      room-falls (suc l) (inTurn (suc l) n e) e c (omega (arith, size)),
-      room-falls l (t ∷ []) d c (omega arith),
-      target-lowest 1 d (omega arith) c (omega arith),
-    ))
-    (λ q. absurd (omega (arith, put-rises t l d b k, ap one (ne-eqb t b q)))))
-
-pub split-lowest : (l n : ℕ) (d : Device) → n ≤ free d → (target n d < blocks d → ⊥) → (b c : ℕ) → c < b → b < blocks d → fill d b < fill (puts l n d) b
-    → room (puts l n d) c ≡ 0
-unfolding puts
-split-lowest l n d f h b c s k r =
-    rw (targets-split l n d h) (turn-lowest l n d f b c s k (rw (targets-split l n d h) at r))

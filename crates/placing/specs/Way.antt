@@ -19,7 +19,8 @@ use Rattle.rules.specs.declared.Extent.{Extent}
 use Rattle.laws.specs.Slots.{flat-length}
 use Rattle.laws.specs.Cells.{block-le, length-tabulate, getD-tabulate, tabulate-same}
 use Rattle.laws.specs.Spread.{withPiece, spread, filled, labelled, listed-none, listed-some, taken-le, taken-room}
-use Rattle.laws.specs.Order.{puts-filled, puts-labelled, puts-rise}
+use Rattle.laws.specs.Order.{puts-filled, puts-labelled}
+use Rattle.laws.specs.Rises.{puts-rise}
 use Rattle.placing.specs.Bare.{fillsOf, bare}
 use Rattle.placing.specs.Blocks.{raised, raises, raised-length, raised-rise, raised-after, raises-before, raises-fills, raises-rise, raises-nothing}
 use Rattle.placing.specs.Rest.{rest, takes, page-small, fills-split, fills-take, fills-drop, rest-next, rest-end, rest-done}

@@ -211,7 +211,7 @@ pub fn tables(quick: bool) -> [Vec<String>; 2] {
         files("003, files of 486 pages: copied, then deleted and copied again", mlc, 486, 16),
         files("003, files of 1,126 pages: the same", mlc, 1126, 16),
         files("003, files of 486 pages: the same in requests of 128 pages", mlc, 486, 128),
-        files("003, files of 1,126 pages: the same", mlc, 1126, 128),
+        files("003, files of 1,126 pages: the same in requests of 128 pages", mlc, 1126, 128),
         aged("001, half in order, then random writes of 32 pages over 30 %", large, 32),
         aged("001, the same with random writes of one page", large, 1),
         spew("000, random writes of 2 to 256 pages", large),
