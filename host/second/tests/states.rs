@@ -73,13 +73,15 @@ fn kinds_differ_in_order_and_lengths() {
     (1..=5).for_each(|count| assert!(irregular.iter().filter(|e| e.count == count).count() > 100));
 }
 
-/// A write to a nearly full device takes the few pages of one block after the other.
+/// A write to a nearly full device takes the few pages of one block after the other: no
+/// block has room for more.
 #[test]
 fn a_write_falls_into_pieces() {
     for extents in [16, 512, 1900] {
         let (head, mut words) = generate::nearly_full(66, 64, 64 * 64, 1900, extents, 4);
-        assert!(stale(head, &words) > 0);
-        assert_eq!(head.used, extents);
+        assert_eq!(Second.report(head, &words).refusal, 0);
+        assert_eq!((head.used, head.reserve), (extents, 65));
+        assert!((0..65).all(|block| words.block(block).fill == 60));
         let mut answer = vec![0; 3 * 64];
         let done = Second.write(head, &mut words, 1, 100, 48, &mut answer);
         assert_eq!((done.refusal, done.count), (0, 12), "{extents} extents");
