@@ -39,7 +39,7 @@ use Rattle.map.specs.Padded.{padded, padded-words, without, Becomes}
 use Rattle.map.specs.Clip.{at-slot}
 use Rattle.putting.specs.Pieces.{putIn}
 use Rattle.putting.specs.Fills.{Puttable}
-use Rattle.placing.specs.Bare.{bare, fillsOf, bare-alike}
+use Rattle.starting.specs.Bare.{bare, fillsOf, bare-alike}
 use Rattle.placing.specs.Place.{Placed, placed-alike, Placeable}
 use Rattle.writable.specs.Meeting.{Writable, Meets, piecesOf, grows}
 use Rattle.writable.specs.declared.Meeting.{Meeting}

@@ -1,7 +1,7 @@
 -- Block records whose fill and valid count rise by what each block takes, block by block.
 use Prim.Native.Nat.{ℕ, zero, suc, _+_, _-_, _*_, _≤_, _<_}
 use mathlib.Core.Path.{_≡_, refl, ap, ap₂, _∙_}
-use mathlib.Core.List.{List, [], _∷_}
+use mathlib.Core.List.{List, _∷_}
 use mathlib.Core.Logic.{by-cases}
 use native.Mathlib.Omega.{arith}
 use native.Mathlib.Decide.{ℕ-discrete}
@@ -9,6 +9,7 @@ use lib.ListN.{length}
 use Rattle.rules.specs.Blocks.{stride, fillWord, validWord, HasBlock, blockAt, putBlock}
 use Rattle.rules.specs.declared.BlockRecord.{BlockRecord}
 use Rattle.laws.specs.Records.{block-path, put-block-length, put-block-here, put-block-else, put-block-same}
+use Rattle.starting.specs.Rest.{fillsFrom}
 use Rattle.laws.specs.Spread.{taken, filled, taken-le}
 
 -- the record of block b with m pages more, each of them mapped
@@ -17,11 +18,6 @@ more m r = record { fill = r .fill + m; valid = r .valid + m }
 
 unfoldable pub raised : ℕ → ℕ → List ℕ → List ℕ
 raised m b blk = putBlock blk b (more m (blockAt blk b))
-
--- the fills of k blocks from block b on
-unfoldable pub fillsFrom : ℕ → ℕ → List ℕ → List ℕ
-fillsFrom zero b blk = []
-fillsFrom (suc k) b blk = fillWord blk b ∷ fillsFrom k (b + 1) blk
 
 -- k blocks from block b on take `want` pages
 unfoldable pub raises : ℕ → ℕ → ℕ → ℕ → ℕ → List ℕ → List ℕ

@@ -18,7 +18,7 @@ use Rattle.laws.specs.Cells.{length-tabulate}
 use Rattle.laws.specs.Slots.{put-slot-sets}
 use Rattle.laws.specs.Spread.{startBlock, withPiece, listed-none, listed-some}
 use Rattle.laws.specs.Alike.{Alike, alike-targets, alike-puts, alike-pieces}
-use Rattle.placing.specs.Bare.{fillsOf, bare}
+use Rattle.starting.specs.Bare.{fillsOf, bare}
 use Rattle.placing.specs.Blocks.{raised, raised-none}
 
 -- ---- one block

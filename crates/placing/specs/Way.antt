@@ -21,10 +21,10 @@ use Rattle.laws.specs.Cells.{block-le, length-tabulate, getD-tabulate, tabulate
 use Rattle.laws.specs.Spread.{withPiece, spread, filled, labelled, listed-none, listed-some, taken-le, taken-room}
 use Rattle.laws.specs.Order.{puts-filled, puts-labelled}
 use Rattle.laws.specs.Rises.{puts-rise}
-use Rattle.placing.specs.Bare.{fillsOf, bare}
+use Rattle.starting.specs.Bare.{fillsOf, bare}
 use Rattle.placing.specs.Blocks.{raised, raises, raised-length, raised-rise, raised-after, raises-before, raises-fills, raises-rise, raises-nothing}
-use Rattle.placing.specs.Rest.{rest, takes, page-small, fills-split, fills-take, fills-drop, rest-next, rest-end, rest-done}
-use Rattle.placing.specs.Starts.{start-le, bare-pieces}
+use Rattle.starting.specs.Rest.{rest, takes, page-small, fills-split, fills-take, fills-drop, rest-next, rest-end, rest-done}
+use Rattle.starting.specs.Starts.{start-le, bare-pieces}
 use Rattle.placing.specs.Place.{pieceIn, RoomFor, PlacedIn, Placeable, Placed}
 
 -- ---- a piece in front of others

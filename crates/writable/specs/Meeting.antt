@@ -16,10 +16,10 @@ use Rattle.laws.specs.Growth.{firstPlace, write-grows}
 use Rattle.laws.specs.Spread.{startBlock}
 use Rattle.laws.specs.States.{device-lines, extents-in-use, state-storable}
 use Rattle.map.specs.Around.{Beside, few-around, joinsBefore, joins-before}
-use Rattle.placing.specs.Bare.{fillsOf, bare-device}
-use Rattle.placing.specs.Rest.{rest}
-use Rattle.placing.specs.Starts.{Starts, pieces-on, first-on}
-use Rattle.placing.specs.declared.Start.{Start}
+use Rattle.starting.specs.Bare.{fillsOf, bare-device}
+use Rattle.starting.specs.Rest.{rest}
+use Rattle.starting.specs.Starts.{Starts, pieces-on, first-on}
+use Rattle.starting.specs.declared.Start.{Start}
 use Rattle.writable.specs.declared.Meeting.{Meeting}
 
 -- a write that is in range and finds its pages

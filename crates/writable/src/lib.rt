@@ -28,7 +28,7 @@ pub fn meeting_of(h: Head, ext: &[u32], blk: &[u32], spare: &[u32], l: u32, n: u
     ensures { λ m. ⌜ Meets l n (lent h (now (ext .entry)) (now (blk .entry)) (now (spare .entry))) m ⌝ }
 {
     let sides = map::around(ext, h.used as usize, l, n);
-    let start = placing::start_of(blk, h.blocks, h.pages, h.reserve, n);
+    let start = starting::start_of(blk, h.blocks, h.pages, h.reserve, n);
     let joined = map::joins_left(ext, sides.before, h.pages, l, start.page);
     Meeting {
         sides: sides,
@@ -72,7 +72,7 @@ pub fn write_verdict(
     if blocks::totals_of(h, blk).free < n {
         return Verdict::Refused(Refusal::NoPages);
     }
-    let k = placing::pieces_of(blk, h.blocks, h.pages, h.reserve, m.from, n);
+    let k = starting::pieces_of(blk, h.blocks, h.pages, h.reserve, m.from, n);
     let nodes = nodes_after(m, k);
     let fits = nodes <= h.slots as usize;
     let listed = (k as usize) <= room / 3;

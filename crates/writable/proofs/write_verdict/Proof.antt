@@ -1,5 +1,5 @@
 use borrow.Author.Needs.{needs}
-use Rattle.placing.specs.Starts.{start-le}
+use Rattle.starting.specs.Starts.{start-le}
 use mathlib.Core.Path.{_≡_, sym, ap, _∙_}
 use mathlib.Core.Bool.{Bool, _&&_}
 use mathlib.Core.Logic.{⊎-elim}

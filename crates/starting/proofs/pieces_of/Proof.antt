@@ -5,9 +5,9 @@ use native.Mathlib.Omega.{arith}
 use borrow.Author.Needs.{needs}
 use Rattle.rules.specs.Blocks.{fillWord}
 use Rattle.laws.specs.Spread.{taken-le}
-use Rattle.placing.specs.Rest.{howMany, many-lines, many-end, many-done, many-skip, many-some}
-use Rattle.placing.proofs.pieces_of.Statement.{statement}
-use Rattle.placing.proofs.pieces_of.Tie as tie
+use Rattle.starting.specs.Rest.{howMany, many-lines, many-end, many-done, many-skip, many-some}
+use Rattle.starting.proofs.pieces_of.Statement.{statement}
+use Rattle.starting.proofs.pieces_of.Tie as tie
 
 abbrev Inv-loop : tie.InvT-loop
 Inv-loop blk blocks n reserve from want count₀ left₀ b₀ count left b = (b ≤ blocks) × (count ≤ b) × (count + howMany n reserve blocks blk b left ≡ howMany n reserve blocks blk from want)

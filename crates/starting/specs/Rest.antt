@@ -12,8 +12,12 @@ use Rattle.rules.specs.Blocks.{fillWord}
 use Rattle.rules.specs.declared.Extent.{Extent}
 use Rattle.laws.specs.Cells.{block-le, length-tabulate, tabulate-append}
 use Rattle.laws.specs.Spread.{taken, withPiece, spread, spread-none, spread-skip, spread-some, spread-length, tabulate-each}
-use Rattle.placing.specs.Bare.{fillsOf}
-use Rattle.placing.specs.Blocks.{fillsFrom}
+use Rattle.starting.specs.Bare.{fillsOf}
+
+-- the fills of k blocks from block b on
+unfoldable pub fillsFrom : ℕ → ℕ → List ℕ → List ℕ
+fillsFrom zero b blk = []
+fillsFrom (suc k) b blk = fillWord blk b ∷ fillsFrom k (b + 1) blk
 
 fills-each : (k b : ℕ) (blk : List ℕ) → fillsFrom k b blk ≡ tabulate k (λ i. fillWord blk (b + i))
 unfolding fillsFrom tabulate

@@ -24,9 +24,9 @@ use Rattle.laws.specs.Spread.{roomAt, taken, spread, fitting, startBlock}
 use Rattle.laws.specs.Order.{spread-pieces, start-inside}
 use Rattle.laws.specs.Alike.{Alike, alike-free, alike-pieces}
 use Rattle.laws.specs.Growth.{firstPlace, pieces-begin}
-use Rattle.placing.specs.Bare.{fillsOf, bare}
-use Rattle.placing.specs.Rest.{rest, takes, rest-drop, rest-some}
-use Rattle.placing.specs.declared.Start.{Start}
+use Rattle.starting.specs.Bare.{fillsOf, bare}
+use Rattle.starting.specs.Rest.{rest, takes, rest-drop, rest-some}
+use Rattle.starting.specs.declared.Start.{Start}
 
 -- words whose block records are those of a sound state
 pub record Startable (blocks n : ℕ) (blk : List ℕ) : Type 0 where

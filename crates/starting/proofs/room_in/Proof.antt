@@ -2,8 +2,8 @@ use mathlib.Core.Path.{sym, _∙_}
 use native.Mathlib.Omega.{arith}
 use borrow.Author.Needs.{needs}
 use Rattle.laws.specs.Spread.{taken-reserve, taken-full, taken-part, taken-all}
-use Rattle.placing.proofs.room_in.Statement.{statement}
-use Rattle.placing.proofs.room_in.Tie as tie
+use Rattle.starting.proofs.room_in.Statement.{statement}
+use Rattle.starting.proofs.room_in.Tie as tie
 
 returns : tie.Need-returns
 returns c = sym (taken-full _ _ _ _ _ (omega arith))

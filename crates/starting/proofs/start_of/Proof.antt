@@ -2,9 +2,9 @@ use Prim.Native.Nat.{_<_}
 use native.Mathlib.Omega.{arith}
 use borrow.Author.Needs.{needs}
 use Rattle.rules.specs.Blocks.{fillWord}
-use Rattle.placing.specs.Rest.{page-small}
-use Rattle.placing.proofs.start_of.Statement.{statement}
-use Rattle.placing.proofs.start_of.Tie as tie
+use Rattle.starting.specs.Rest.{page-small}
+use Rattle.starting.proofs.start_of.Statement.{statement}
+use Rattle.starting.proofs.start_of.Tie as tie
 
 start-block-requires : tie.Need-start-block-requires
 start-block-requires c κs = c .before .pre .size

@@ -5,9 +5,9 @@ use native.Mathlib.Omega.{arith}
 use borrow.Author.Needs.{needs}
 use Rattle.laws.specs.Spread.{taken-le}
 use Rattle.rules.specs.Blocks.{fillWord}
-use Rattle.placing.specs.Starts.{Tried, tried-first, tried-found, tried-some, tried-next, tried-end}
-use Rattle.placing.proofs.start_block.Statement.{statement}
-use Rattle.placing.proofs.start_block.Tie as tie
+use Rattle.starting.specs.Starts.{Tried, tried-first, tried-found, tried-some, tried-next, tried-end}
+use Rattle.starting.proofs.start_block.Statement.{statement}
+use Rattle.starting.proofs.start_block.Tie as tie
 
 abbrev Inv-loop : tie.InvT-loop
 Inv-loop blk blocks n reserve want any₀ b₀ any b = Tried n reserve blocks blk want b any

@@ -1,0 +1,3 @@
+pub mod Bare
+pub mod Rest
+pub mod Starts
