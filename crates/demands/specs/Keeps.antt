@@ -1,15 +1,15 @@
 -- T-04, proved: a block has room for all pages of a write on the lent words where it has on the plain device, and what the rules place there is one piece.
-use Prim.Native.Nat.{ℕ, _+_, _*_, _≤_, _<_}
-use mathlib.Core.Path.{_≡_, ap, _∙_}
+use Prim.Native.Nat.{ℕ, suc, _+_, _*_, _≤_, _<_}
+use mathlib.Core.Path.{_≡_, refl, ap, _∙_}
 use mathlib.Core.List.{List, [], _∷_, _++_}
 use mathlib.Core.Logic.{by-cases}
 use native.Mathlib.Omega.{arith}
 use native.Mathlib.Decide.{decLt}
 use lib.ListN.{length, getD, take, drop}
-use Rattle.rules.specs.Extents.{extent, flat}
+use Rattle.rules.specs.Extents.{none, extent, flat}
 use Rattle.rules.specs.Lent.{Lent, fillOf}
-use Rattle.rules.specs.Device.{Device, blocks, fill, room, valid, extents, deviceOf, headOf, wordsOf}
-use Rattle.rules.specs.Placement.{target, targets, puts, pieces}
+use Rattle.rules.specs.Device.{Device, blocks, at, fill, room, valid, extents, deviceOf, headOf, wordsOf}
+use Rattle.rules.specs.Placement.{placesAt, target, targets, puts, places, pieces}
 use Rattle.rules.specs.Request.{withTable, written, numbered}
 use Rattle.rules.specs.Answers.{Outcome}
 use Rattle.rules.specs.Calls.{Call, counts, leaves, lists, over, acceptedOn, call}
@@ -17,12 +17,13 @@ use Rattle.rules.specs.declared.Extent.{Extent}
 use Rattle.laws.specs.Balance.{room-other, room-reserve}
 use Rattle.laws.specs.Records.{records-fill}
 use Rattle.laws.specs.Sound.{Storable}
-use Rattle.laws.specs.Placed.{puts-pages, puts-reserve}
-use Rattle.laws.specs.States.{device-blocks, device-fill}
-use Rattle.laws.specs.Order.{target-room, target-found, target-lowest, puts-all, whole-piece}
-use Rattle.laws.specs.Rises.{split-lowest}
+use Rattle.laws.specs.Cells.{sets-in}
+use Rattle.laws.specs.Placed.{puts-table, puts-pages, puts-reserve}
+use Rattle.laws.specs.States.{device-blocks, device-fill, words-device}
+use Rattle.laws.specs.Order.{target-room, target-found, target-lowest, length-placed, puts-all, whole-piece}
+use Rattle.laws.specs.Rises.{split-lowest, split-rises}
 use Rattle.laws.specs.Growth.{pieces-bound, split-pieces}
-use Rattle.laws.specs.Kept.{WriteTaken, refusal-taken, accepted-in, device-storable, device-is}
+use Rattle.laws.specs.Kept.{WriteTaken, refusal-taken, keeps, accepted-in, device-storable, device-is}
 use Rattle.demands.specs.Refusals.{answers}
 use Rattle.demands.specs.Whole.{HasRoom, KeptWhole}
 
@@ -151,5 +152,22 @@ module _ (k l n : ℕ) (out : List ℕ) (s : Lent) (e : call (Call.write k l n o
       same-pages : puts l n (deviceOf s) .pages ≡ s .head .pages
       same-pages = puts-pages l (targets l n (deviceOf s)) (deviceOf s)
 
+  -- ---- and its lines
+
+  after-at : (i : ℕ) → i < n → at (deviceOf (call c s .after)) (l + i) ≡ getD (places l n (deviceOf s)) i none
+  unfolding leaves written numbered withTable puts places
+  after-at i h =
+      let d = deviceOf s in
+      let ps = placesAt l (targets l n d) d in
+      let size = length-placed l n d in
+      let left = words-device (leaves c d) (keeps c d storable (accepted-in c s e .plainly)) in
+      ap (λ (x : Device). at x (l + i)) (ap deviceOf (accepted-in c s e .after) ∙ left)
+      ∙ ap (λ (t : List ℕ). getD t (l + i) none) (puts-table l (targets l n d) d)
+      ∙ sets-in none ps (d .table) l (l + i) i (omega arith) (omega (arith, taken .range .inside)) refl
+
+  rising : ((b : ℕ) → HasRoom n s b → ⊥) → (i : ℕ) → suc i < n → at (deviceOf (call c s .after)) (l + i) < at (deviceOf (call c s .after)) (l + suc i)
+  rising h i below =
+      omega (arith, after-at i (omega arith), after-at (suc i) below, split-rises l n (deviceOf s) (taken .pages) (unfit h) i below)
+
   pub keeps-whole : KeptWhole l n s (call c s)
-  keeps-whole = record { whole = whole; few = few; cut = cut; filled = filled }
+  keeps-whole = record { whole = whole; few = few; cut = cut; filled = filled; rising = rising }

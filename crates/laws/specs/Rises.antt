@@ -1,6 +1,7 @@
--- How fills rise with a write: each by the pages that its block takes; in 01's order a block is filled before the next takes a page.
-use Prim.Native.Nat.{ℕ, zero, suc, _+_, _≤_, _<_}
-use mathlib.Core.Path.{_≡_, sym, ap}
+-- How fills rise with a write: each by the pages that its block takes. In 01's order a block is filled before the next takes a page, and pages are taken in
+-- rising order.
+use Prim.Native.Nat.{ℕ, zero, suc, _+_, _*_, _≤_, _<_}
+use mathlib.Core.Path.{_≡_, refl, sym, ap}
 use mathlib.Core.List.{List, [], _∷_}
 use mathlib.Core.Logic.{by-cases}
 use native.Mathlib.Omega.{arith}
@@ -10,9 +11,12 @@ use lib.Dec.{eqb}
 use lib.ListN.{length, getD, set}
 use lib.Seq.{getD-set-same, getD-set-other}
 use Rattle.rules.specs.Counting.{one, count}
+use Rattle.rules.specs.Extents.{none}
 use Rattle.rules.specs.Device.{Device, blocks, fill, room, free}
-use Rattle.rules.specs.Placement.{putAt, putsAt, target, inTurn, targets, puts}
+use Rattle.rules.specs.Placement.{putAt, putsAt, placesAt, target, inTurn, targets, puts, places}
 use Rattle.laws.specs.Sums.{count-first}
+use Rattle.laws.specs.Cells.{block-le}
+use Rattle.laws.specs.Balance.{room-other}
 use Rattle.laws.specs.Placed.{puts-pages, puts-reserve}
 use Rattle.laws.specs.Order.{target-lowest, target-open, blocks-put, open-free, targets-split, length-targets}
 
@@ -81,3 +85,42 @@ pub split-lowest : (l n : ℕ) (d : Device) → n ≤ free d → (target n d < b
 unfolding puts
 split-lowest l n d f h b c s k r =
     rw (targets-split l n d h) (turn-lowest l n d f b c s k (rw (targets-split l n d h) at r))
+
+-- ---- and takes pages in rising order
+
+-- the next page lies behind the one before
+next-rises : (l : ℕ) (d : Device) → let e = putAt (target 1 d) l d in 0 < free d → 0 < free e
+    → target 1 d * d .pages + fill d (target 1 d) < target 1 e * e .pages + fill e (target 1 e)
+unfolding putAt putsAt
+next-rises l d f g =
+    let t = target 1 d in
+    let e = putAt t l d in
+    let u = target 1 e in
+    let v = target-open d f in
+    let w = target-open e g in
+    let inside : u < blocks d = omega (arith, w .inside, blocks-put t l d) in
+    by-cases (decLt u t)
+    (λ a. absurd (omega (
+      arith,
+      target-lowest 1 d (omega arith) u a,
+      room-falls l (t ∷ []) d u inside,
+      room-other e u (w .other),
+      w .below,
+    )))
+    (λ a. by-cases (decLt t u)
+    (λ b. omega (arith, block-le (d .pages) t u b, v .below))
+    (λ b. let q : u ≡ t = omega arith in
+    omega (arith, ap (λ (x : ℕ). x * d .pages + fill e x) q, put-rises t l d t (v .inside), ap one (eq-eqb t t refl))))
+
+turn-rises : (l n : ℕ) (d : Device) → n ≤ free d → (i : ℕ) → suc i < n → getD (placesAt l (inTurn l n d) d) i none < getD (placesAt l (inTurn l n d) d) (suc i) none
+unfolding placesAt inTurn
+turn-rises l zero d f i h = absurd (omega arith)
+turn-rises l (suc zero) d f i h = absurd (omega arith)
+turn-rises l (suc (suc n)) d f zero h = let v = target-open d (omega arith) in next-rises l d (omega arith) (omega (arith, open-free d (target 1 d) l v))
+turn-rises l (suc (suc n)) d f (suc i) h =
+    let v = target-open d (omega arith) in
+    turn-rises (suc l) (suc n) (putAt (target 1 d) l d) (omega (arith, open-free d (target 1 d) l v)) i (omega arith)
+
+pub split-rises : (l n : ℕ) (d : Device) → n ≤ free d → (target n d < blocks d → ⊥) → (i : ℕ) → suc i < n → getD (places l n d) i none < getD (places l n d) (suc i) none
+unfolding places
+split-rises l n d f h i s = rw (targets-split l n d h) (turn-rises l n d f i s)

@@ -102,7 +102,7 @@ marked02 =
     ∷ case usual (write 1 0 10 ∷ write 2 10 10 ∷ write 3 20 10 ∷ []) (
     answer (write 4 0 16) (0 ∷ 3 ∷ 0 ∷ 10 ∷ 6 ∷ 6 ∷ 26 ∷ 6 ∷ 12 ∷ 42 ∷ 4 ∷ [])
     ∷ theMap (0 ∷ 10 ∷ 6 ∷ 6 ∷ 26 ∷ 6 ∷ 12 ∷ 42 ∷ 4 ∷ 16 ∷ 22 ∷ 4 ∷ 20 ∷ 32 ∷ 10 ∷ []) ∷ report 2 30 16 ∷ [])
-    -- 01, rule 2: what goes on over a block's edge in both addresses is two extents, as P11 showed it before T-04
+    -- 01, rule 2: not joined over the block's edge, though both addresses go on there
     ∷ case usual (write 1 0 10 ∷ write 2 10 6 ∷ []) (answer (write 3 16 16) (0 ∷ 1 ∷ 16 ∷ 16 ∷ 16 ∷ []) ∷ theMap (0 ∷ 0 ∷ 16 ∷ 16 ∷ 16 ∷ 16 ∷ []) ∷ [])
     -- T-04: 6 and 7 go by the pieces. Here 01's order would have needed two of them, a third slot and six words of the answer
     ∷ case (From.anew 4 16 32 2) (write 1 0 10 ∷ []) (

@@ -28,7 +28,7 @@ use Rattle.starting.specs.Bare.{fillsOf, bare}
 use Rattle.starting.specs.Rest.{rest, takes, rest-drop, rest-some}
 use Rattle.starting.specs.declared.Start.{Start}
 
--- words whose block records are those of a sound state
+-- the records of blocks of which none is fuller than N, at most as many and as long as 01's numbers have them
 pub record Startable (blocks n : ℕ) (blk : List ℕ) : Type 0 where
   pub size : stride * blocks ≤ length blk
   pub blocks-few : blocks ≤ 1024

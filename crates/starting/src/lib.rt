@@ -1,7 +1,8 @@
 // Where a write starts: with the block that has room for all of its pages, the lowest-numbered, or else in 01's order. The order is known here and nowhere else in
 // the code: `start_block` finds that block, in one pass over the records, and the walks over the blocks go on from there, each block taking what it has room for.
 ghost use mathlib.Core.Path.{_≡_};
-ghost use Prim.Native.Nat.{ℕ, _*_, _≤_};
+ghost use Prim.Native.Nat.{ℕ, _*_, _≤_, _<_};
+ghost use lib.Dec.{eqb};
 ghost use lib.ListN.{length};
 ghost use Rattle.rules.specs.Blocks.{stride, fillWord, HasBlock};
 ghost use Rattle.laws.specs.Spread.{taken, startBlock};
@@ -33,6 +34,14 @@ pub struct Start {
     pub page: u32,
 }
 
+// Whether a block that takes m of `want` pages, one or more, has room for all of them.
+fn takes_all(m: u32, want: u32) -> bool
+    requires { ⌜ (0 < m) × (m ≤ want) ⌝ }
+    ensures { λ r. ⌜ r ≡ eqb m want ⌝ }
+{
+    m == want
+}
+
 // The block that `want` pages start with: the first that has room for all of them or, where none has, the first that has room for one. Where no block
 // has, and for no pages, it is the one behind the last.
 fn start_block(blk: &[u32], blocks: u32, n: u32, reserve: u32, want: u32) -> usize
@@ -44,7 +53,7 @@ fn start_block(blk: &[u32], blocks: u32, n: u32, reserve: u32, want: u32) -> usi
     while b < blocks as usize {
         let m = room_in(blk, b, n, reserve, want);
         if 0 < m {
-            if m == want {
+            if takes_all(m, want) {
                 return b;
             }
             if any == blocks as usize {
