@@ -16,5 +16,4 @@ pub mod Views
 pub mod Opened
 pub mod Cases
 pub mod Marked
-pub mod MarkedRows
 pub mod MarkedViews

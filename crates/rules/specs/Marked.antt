@@ -1,9 +1,8 @@
--- P1 to P12 of document 01: one table, and one statement about the definitions, which holds by computing; a second one of the same kind has what document 02 adds.
--- MarkedRows.antt has them as equations.
-use Rattle.std.specs.Prelude.{ℕ, true, ◌≡◌, refl, List, [], ◌∷◌, replicate}
+-- P1 to P12 of document 01, as one table; a second one of the same kind has what document 02 adds. The statements about them stand in proofs/: Marked.antt, by computing, and
+-- MarkedRows.antt, as equations.
+use Rattle.std.specs.Prelude.{ℕ, List, [], ◌∷◌, replicate}
 use Rattle.rules.specs.Calls.{Call}
-use Rattle.rules.specs.Opened.{opened}
-use Rattle.rules.specs.Cases.{Case, Expect, Look, From, expect, answer_of, look_at, next, after_all, seen, left, start, begun, comes_from, comes, musts, same_by, holds}
+use Rattle.rules.specs.Cases.{Case, Expect, Look, From, expect}
 
 -- ---- the requests of the cases, with answer buffers of 48 words
 
@@ -106,15 +105,3 @@ marked02 =
     ∷ case (From.anew 4 16 32 4) (write 1 0 10 ∷ write 2 10 10 ∷ write 3 20 10 ∷ []) (answer (write 4 0 16) (6 ∷ 0 ∷ []) ∷ [])
     ∷ case (From.anew 4 16 32 5) (write 1 0 10 ∷ write 2 10 10 ∷ write 3 20 10 ∷ []) (answer (Call.write 4 0 16 (replicate 8 0)) (7 ∷ 0 ∷ []) ∷ [])
     ∷ []
-
--- ---- the statements
-
-pub marked-holds : holds marked ≡ true
-unfolding opened
-    answer_of look_at next after_all seen left start begun comes_from comes musts same_by holds
-marked-holds = refl
-
-pub marked02-holds : holds marked02 ≡ true
-unfolding opened
-    answer_of look_at next after_all seen left start begun comes_from comes musts same_by holds
-marked02-holds = refl

@@ -1,5 +1,5 @@
 -- Views and a refused fresh on the device of P12, each outcome whole: the statement beside the marked table for what is no case of `Call`. It holds by computing.
-use Rattle.std.specs.Prelude.{ℕ, ◌*◌, ◌≡◌, refl, List, [], ◌∷◌, replicate}
+use Rattle.std.specs.Prelude.{ℕ, ◌*◌, ◌≡◌, List, [], ◌∷◌, replicate}
 use Rattle.rules.specs.Extents.{none}
 use Rattle.rules.specs.Blocks.{stride}
 use Rattle.rules.specs.Lent.{Lent, lent}
@@ -8,7 +8,6 @@ use Rattle.rules.specs.Answers.{Outcome}
 use Rattle.rules.specs.Request.{kept}
 use Rattle.rules.specs.Calls.{fresh}
 use Rattle.rules.specs.Views.{view, reporting, reading}
-use Rattle.rules.specs.Opened.{opened}
 
 -- P12 after its two writes: page 0 is stale, page 1 holds the only line, block 2 is the reserve
 abbrev twice : Device
@@ -45,7 +44,3 @@ pub record MarkedViews : Type 0 where
   -- L = 2 is refused 1: the four sizes as given and zero elsewhere, and the words as they were
   pub unmade : fresh 3 1 2 1 (sevens 3) (sevens (stride * 3)) (sevens 3)
       ≡ leaving 1 [] (lent (record { blocks = 3; pages = 1; logical = 2; slots = 1; used = 0; reserve = 0; last = kept 0 }) (sevens 3) (sevens (stride * 3)) (sevens 3)) []
-
-pub marked_views : MarkedViews
-unfolding opened
-marked_views = record { reports = refl; reads = refl; shape = refl; damages = refl; range = refl; short = refl; unseen = refl; unmade = refl }

@@ -1,3 +1,5 @@
+#![tactic(auto)]
+
 // What goes in and comes back by value: the head, an extent, the record of a block, the refusals, and the answers of the calls. Each has
 // the paper's words for names. What the numbers and values of an answer are is said once, in specs/Answers.antt.
 

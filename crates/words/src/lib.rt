@@ -1,8 +1,8 @@
+#![tactic(auto)]
+
 // Leaves on what is lent: the record of a block, the slot of an extent, scans of a part, and stores into a part; and what goes by value: a refusal's
 // number, a head of sizes, what is kept of a request. What a block record holds, and how far apart two records stand, is known here and in
 // specs/Blocks.antt of `rules`, and nowhere else in the code.
-#![tactic(auto)]
-
 ghost use Rattle.std.specs.Prelude.{◌≡◌, ◌+◌, ◌-◌, ◌*◌, ◌<◌, ◌≤◌, ◌^◌, ◌++◌, length, get_or, take, drop, replicate, eqb, ltb};
 ghost use Rattle.rules.specs.Counting.{all, tabulate};
 ghost use Rattle.rules.specs.Answers.{number};

@@ -1,4 +1,4 @@
-use Rattle.std.proofs.Common.{◌+◌, refl, get_or, arith, rules}
+use Rattle.std.proofs.Common.{refl, get_or, arith, rules}
 use Rattle.words.specs.Scan.{scan-none, scan_bits, scan-end}
 use Rattle.words.proofs.all_are.Goals as goal
 

@@ -9,8 +9,7 @@ loop-k-init c = (search rules, scan-none _)
 pub loop-k-preserved : goal.loop-k-preserved
 loop-k-preserved c =
     let o = c.loop-k in
-    let a = c.args in
-    (
+    let a = c.args in (
       search rules,
       elim c.if-last-ws.branch [
         | then-last-ws w ↦ rw w.ok-is (scan_fails _ _ (le-ltb (get_or a.ws.now o.k 0) a.top (omega arith)))

@@ -1,4 +1,4 @@
-use Rattle.std.proofs.Common.{◌-◌, ◌+◌, ◌≡◌, ◌≤◌, eqb, ltb, length, get_or}
+use Rattle.std.proofs.Common.{◌-◌, ◌≡◌, ◌≤◌, ltb, length, get_or}
 use Rattle.rules.specs.Counting.{all}
 use Rattle.words.proofs.all_below.Given as goal
 

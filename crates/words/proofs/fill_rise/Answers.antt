@@ -1,4 +1,4 @@
-use Rattle.std.proofs.Common.{◌∙◌, refl, get_or, arith, rules, length-set}
+use Rattle.std.proofs.Common.{refl, arith, rules, length-set}
 use Rattle.words.specs.Store.{stored-start, stored_next, stored-end}
 use Rattle.words.proofs.fill_rise.Goals as goal
 

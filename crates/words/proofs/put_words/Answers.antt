@@ -1,4 +1,4 @@
-use Rattle.std.proofs.Common.{◌∙◌, refl, get_or, arith, rules, length-set}
+use Rattle.std.proofs.Common.{refl, get_or, arith, rules, length-set}
 use Rattle.words.specs.Store.{stored-start, stored_next, put-end}
 use Rattle.words.proofs.put_words.Goals as goal
 

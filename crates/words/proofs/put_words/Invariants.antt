@@ -1,4 +1,4 @@
-use Rattle.std.proofs.Common.{◌-◌, ◌+◌, ◌≡◌, ◌≤◌, length, get_or}
+use Rattle.std.proofs.Common.{◌-◌, ◌≡◌, ◌≤◌, length, get_or}
 use Rattle.words.specs.Store.{stored}
 use Rattle.words.proofs.put_words.Given as goal
 

@@ -3,7 +3,8 @@ use Rattle.std.specs.Prelude.{Bool, true, false, ◌&&◌, ◌≡◌, refl, List
 use Rattle.std.proofs.lemmas.Bool.{false≢true}
 use Rattle.std.proofs.Common.{ap₂, eqb-true}
 use Rattle.rules.specs.Cases.{Case, comes, musts, same_by, holds}
-use Rattle.rules.specs.Marked.{marked, marked02, marked-holds, marked02-holds}
+use Rattle.rules.specs.Marked.{marked, marked02}
+use Rattle.rules.proofs.Marked.{marked-holds, marked02-holds}
 
 both : (a b : Bool) → (a && b) ≡ true → (a ≡ true) × (b ≡ true)
 both true b e = (refl, e)
