@@ -9,7 +9,7 @@ use Rattle.rules.specs.Lent.{Lent, lent}
 use Rattle.rules.specs.Answers.{Outcome, done, listed, counted}
 use Rattle.rules.specs.Calls.{Call, call, fresh}
 use Rattle.demands.specs.Demand1.{Answers, FreshAnswers}
-use Rattle.demands.specs.Proved.{demand_1}
+use Rattle.demands.proofs.Proved.{demand_1}
 use Rattle.layer.specs.Told.{done-one, listed-one, counted-one}
 use Rattle.layer.specs.Promises.{Words, Promises}
 use Rattle.layer.specs.ByRule.{by_rule}

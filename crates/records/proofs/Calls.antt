@@ -14,7 +14,7 @@ use Rattle.rules.specs.Answers.{listed}
 use Rattle.rules.specs.Calls.{Call, call}
 use Rattle.rules.specs.declared.Listed.{Listed}
 use Rattle.demands.specs.Demand1.{Answers}
-use Rattle.demands.specs.Proved.{demand_1}
+use Rattle.demands.proofs.Proved.{demand_1}
 use Rattle.layer.specs.Told.{listed-one}
 use Rattle.layer.specs.Promises.{Words, leaving, Promises}
 use Rattle.layer.specs.ByRule.{by_rule}

@@ -5,14 +5,14 @@
 
 // What is known of the last accepted write or trim: its number, 0 where there was none.
 #[repr(C)]
-#[derive(Drop)]
+#[derive(Clone, Copy)]
 pub struct Last {
     pub number: u64,
 }
 
 // 01, Numbers: B, N, L, M, extents in use, reserve block, last request number.
 #[repr(C)]
-#[derive(Drop)]
+#[derive(Clone, Copy)]
 pub struct Head {
     pub blocks: u32,
     pub pages: u32,
@@ -25,7 +25,7 @@ pub struct Head {
 
 // 01, the device and what the layer does: logical start, physical start, page count.
 #[repr(C)]
-#[derive(Drop)]
+#[derive(Clone, Copy)]
 pub struct Extent {
     pub logical: u32,
     pub physical: u32,
@@ -33,14 +33,14 @@ pub struct Extent {
 }
 
 // 01, Numbers: blocks 2B (fill, valid): what is stored of a block.
-#[derive(Drop)]
+#[derive(Clone, Copy)]
 pub struct BlockRecord {
     pub fill: u32,
     pub valid: u32,
 }
 
 // 01, Refusals.
-#[derive(Drop)]
+#[derive(Clone, Copy)]
 pub enum Refusal {
     Shape,
     Damaged,
@@ -53,21 +53,21 @@ pub enum Refusal {
 }
 
 // What fresh and trim answer.
-#[derive(Drop)]
+#[derive(Clone, Copy)]
 pub enum Done {
     Accepted(Head),
     Refused(Refusal, Head),
 }
 
 // What write, read and reclaim answer: how many pieces, or copied pages, stand in the answer buffer.
-#[derive(Drop)]
+#[derive(Clone, Copy)]
 pub enum Listed {
     Accepted(u32, Head),
     Refused(Refusal, Head),
 }
 
 // What report answers: free, live, stale.
-#[derive(Drop)]
+#[derive(Clone, Copy)]
 pub enum Counted {
     Accepted(u32, u32, u32, Head),
     Refused(Refusal, Head),

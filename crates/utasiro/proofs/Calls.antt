@@ -10,7 +10,7 @@ use borrow.Fn.World.{World}
 use borrow.Fn.Kinds.{Dens}
 use Rattle.rules.specs.Calls.{Call, call}
 use Rattle.demands.specs.Demand1.{Answers}
-use Rattle.demands.specs.Proved.{demand_1}
+use Rattle.demands.proofs.Proved.{demand_1}
 use Rattle.layer.specs.Promises.{leaving, Promises}
 use Rattle.layer.specs.ByRule.{by_rule}
 use Rattle.layer.proofs.Calls.{fresh-words, FreshRight, freshly, fresh-right, write-words, writes, writes-to}

@@ -33,8 +33,8 @@ use Rattle.demands.specs.Host.{Ask, ops, doing, marking, World, step, run, begin
 use Rattle.demands.specs.Requests.{carries, is_write, number_of, start_of, count_of, again}
 use Rattle.demands.specs.Demand1.{order, given, first_given}
 use Rattle.demands.specs.Once.{Nothing, repeats, noted, once, held, AppliedOnce}
-use Rattle.demands.specs.Refusals.{refused-untouched, answers}
-use Rattle.demands.specs.Steps.{either, leaves-pages, call-pages, call-last}
+use Rattle.demands.proofs.Refusals.{refused-untouched, answers}
+use Rattle.demands.proofs.Steps.{either, leaves-pages, call-pages, call-last}
 
 -- ---- a refused request leaves the world
 

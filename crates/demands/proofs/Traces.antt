@@ -11,9 +11,9 @@ use Rattle.laws.specs.Bools.{cases, or_split}
 use Rattle.demands.specs.Flash.{Cell}
 use Rattle.demands.specs.Host.{Ask, Op, ops, does, doing, marks, marking, May, Allowed, AllAllowed, World, step}
 use Rattle.demands.specs.Demand2.{trace, onto, erasing, erases, NotTwice, InOrder}
-use Rattle.demands.specs.Steps.{call-pages}
-use Rattle.demands.specs.Listed.{allowed_append}
-use Rattle.demands.specs.Worlds.{Faithful, step-holds, step-allowed}
+use Rattle.demands.proofs.Steps.{call-pages}
+use Rattle.demands.proofs.Listed.{allowed_append}
+use Rattle.demands.proofs.Worlds.{Faithful, step-holds, step-allowed}
 
 -- ---- a history's steps, one after the other
 

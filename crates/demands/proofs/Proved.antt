@@ -19,13 +19,13 @@ use Rattle.demands.specs.Demand3.{Asked, until, Settles, Demand3}
 use Rattle.demands.specs.Once.{AppliedOnce}
 use Rattle.demands.specs.Struck.{SixStruck}
 use Rattle.demands.specs.Whole.{KeptWhole}
-use Rattle.demands.specs.Refusals.{answers, reports, fresh-answers}
-use Rattle.demands.specs.Starts.{begin-holds, erased_flash, erased-all, made-storable, made-begins}
-use Rattle.demands.specs.Histories.{holds-demand}
-use Rattle.demands.specs.Settling.{settles, wide_enough, write-enough}
-use Rattle.demands.specs.Repeats.{begins-once}
-use Rattle.demands.specs.Shrinks.{struck}
-use Rattle.demands.specs.Keeps.{keeps-whole}
+use Rattle.demands.proofs.Refusals.{answers, reports, fresh-answers}
+use Rattle.demands.proofs.Starts.{begin-holds, erased_flash, erased-all, made-storable, made-begins}
+use Rattle.demands.proofs.Histories.{holds-demand}
+use Rattle.demands.proofs.Settling.{settles, wide_enough, write-enough}
+use Rattle.demands.proofs.Repeats.{begins-once}
+use Rattle.demands.proofs.Shrinks.{struck}
+use Rattle.demands.proofs.Keeps.{keeps-whole}
 
 -- every request on every lent state
 pub demand_1 : Demand1

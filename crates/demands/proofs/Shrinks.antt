@@ -15,7 +15,7 @@ use Rattle.laws.specs.Encoded.{reclaim-shrinks}
 use Rattle.laws.specs.Kept.{device-storable, device-is}
 use Rattle.demands.specs.Demand1.{order, given, first_given}
 use Rattle.demands.specs.Struck.{order_in01, answer_by, SixStruck}
-use Rattle.demands.specs.Refusals.{first_applies}
+use Rattle.demands.proofs.Refusals.{first_applies}
 
 -- a row that stands in both lists: what follows it is asked where it does not apply
 behind : (t : Bool) (r : Refusal) (x y : ℕ) → (t ≡ false → x ≡ y) → cond t (number r) x ≡ cond t (number r) y

@@ -20,7 +20,7 @@ use Rattle.laws.specs.Cells.{length-tabulate, get_d_tabulate, replicate-at}
 use Rattle.laws.specs.Runs.{runs_holes}
 use Rattle.laws.specs.Fresh.{fresh-fill, fresh-blocks, fresh_lines, fresh_at, fresh-sound}
 use Rattle.demands.specs.Flash.{Cell, erased, hole, contents}
-use Rattle.demands.specs.Shows.{see-hole, Clean}
+use Rattle.demands.proofs.Shows.{see-hole, Clean}
 use Rattle.laws.specs.Sound.{Sizes, Storable}
 use Rattle.laws.specs.Shapes.{sizes-true, pages_fit}
 use Rattle.laws.specs.States.{device-lines, device-blocks, device-fill, words-fill}
@@ -29,7 +29,7 @@ use Rattle.laws.specs.Kept.{device-storable, device-is}
 use Rattle.laws.specs.Makes.{make-leaves, make-sound}
 use Rattle.demands.specs.Host.{reads, ErasedFromFill, begin}
 use Rattle.demands.specs.Demand2.{begin_fresh}
-use Rattle.demands.specs.Worlds.{Faithful, reads-contents}
+use Rattle.demands.proofs.Worlds.{Faithful, reads-contents}
 
 -- ---- a sound state
 

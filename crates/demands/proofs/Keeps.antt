@@ -25,7 +25,7 @@ use Rattle.laws.specs.Order.{target_room, target_found, target-lowest, length-pl
 use Rattle.laws.specs.Rises.{split_lowest, split_rises}
 use Rattle.laws.specs.Growth.{pieces-bound, split_pieces}
 use Rattle.laws.specs.Kept.{WriteTaken, refusal-taken, keeps, accepted_in, device-storable, device-is}
-use Rattle.demands.specs.Refusals.{answers}
+use Rattle.demands.proofs.Refusals.{answers}
 use Rattle.demands.specs.Whole.{HasRoom, KeptWhole}
 
 module _ (k l n : ℕ) (out : List ℕ) (s : Lent) (e : (call (Call.write k l n out) s).refusal ≡ 0) where

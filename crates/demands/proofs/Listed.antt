@@ -21,7 +21,7 @@ use Rattle.laws.specs.Runs.{joinable-true, join-joined, join_apart, runs-page}
 use Rattle.laws.specs.Device.{SoundDevice}
 use Rattle.laws.specs.Placed.{Opens, put_one}
 use Rattle.demands.specs.Flash.{Cell, erased, value}
-use Rattle.demands.specs.Shows.{Clean, put-ready, put-inside, put-clean, program}
+use Rattle.demands.proofs.Shows.{Clean, put-ready, put-inside, put-clean, program}
 use Rattle.demands.specs.Host.{Op, programs, copies, does, doing, marks, marking, AllAllowed}
 
 -- ---- one thing after another

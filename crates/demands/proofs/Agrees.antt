@@ -16,7 +16,7 @@ use Rattle.laws.specs.Lines.{trimmed-lines}
 use Rattle.laws.specs.Reclaimed.{re_lines}
 use Rattle.laws.specs.Gains.{victim-chosen}
 use Rattle.demands.specs.Flash.{Cell, value, Seen, hole, cell, contents}
-use Rattle.demands.specs.Shows.{Clean, program, write-shows, trim-clean, trim-shows, trim-keeps, vacate, vacate-clean, vacate-keeps}
+use Rattle.demands.proofs.Shows.{Clean, program, write-shows, trim-clean, trim-shows, trim-keeps, vacate, vacate-clean, vacate-keeps}
 
 pub record Agrees (d : Device) (f : List Cell) (t : List Seen) : Type 0 where
   pub clean : Clean d f

@@ -12,7 +12,7 @@ use Rattle.rules.specs.Request.{with_table, numbered, written, trimmed}
 use Rattle.rules.specs.Calls.{Call, refusal, leaves, call}
 use Rattle.laws.specs.Placed.{puts-pages}
 use Rattle.laws.specs.Kept.{refusal-taken, accepted_in}
-use Rattle.demands.specs.Refusals.{refused-untouched}
+use Rattle.demands.proofs.Refusals.{refused-untouched}
 
 pub leaves-pages : (c : Call) (d : Device) → (leaves c d).pages ≡ d.pages
 unfolding leaves written numbered with_table puts trimmed reclaimed reclaimed_at

@@ -15,8 +15,8 @@ use Rattle.laws.specs.Kept.{keeps}
 use Rattle.demands.specs.Flash.{hole, contents}
 use Rattle.demands.specs.Host.{Ask, World, run}
 use Rattle.demands.specs.Demand2.{history, plain_history, trace, NotTwice, InOrder, Demand2}
-use Rattle.demands.specs.Worlds.{Faithful, plain_accepted, plain_refused, run_holds, holds-reads}
-use Rattle.demands.specs.Traces.{trace-allowed, in_order_lem, not-twice}
+use Rattle.demands.proofs.Worlds.{Faithful, plain_accepted, plain_refused, run_holds, holds-reads}
+use Rattle.demands.proofs.Traces.{trace-allowed, in_order_lem, not-twice}
 
 -- ---- the answers
 

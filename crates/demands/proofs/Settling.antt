@@ -17,7 +17,7 @@ use Rattle.laws.specs.Placed.{puts-slots}
 use Rattle.laws.specs.Order.{length-placed}
 use Rattle.laws.specs.Reclaimed.{few-sources}
 use Rattle.laws.specs.Gains.{stale_blocks, victim-chosen, reclaim-all}
-use Rattle.demands.specs.Settle.{settle, settle-done, settle-more, Settled, settle-ends, stale_blocks_lt, never_stuck}
+use Rattle.demands.proofs.Settle.{settle, settle-done, settle-more, Settled, settle-ends, stale_blocks_lt, never_stuck}
 use Rattle.demands.specs.Flash.{Cell, Seen, hole}
 use Rattle.laws.specs.Sound.{Storable}
 use Rattle.laws.specs.States.{words-device, storable-shaped, storable-sound}
@@ -28,8 +28,8 @@ use Rattle.laws.specs.Kept.{WriteTaken, passes, keeps, device-storable, device-i
 use Rattle.laws.specs.Growth.{write-bound, write-lines}
 use Rattle.demands.specs.Host.{shown, World, step, begin}
 use Rattle.demands.specs.Demand3.{Asked, LongEnough, stale_of, reclaiming, later, until, times, Way, Roomy, Gains, Spares, Demand3}
-use Rattle.demands.specs.Worlds.{Faithful, call-taken, step-holds, holds-reads}
-use Rattle.demands.specs.Starts.{begin-holds}
+use Rattle.demands.proofs.Worlds.{Faithful, call-taken, step-holds, holds-reads}
+use Rattle.demands.proofs.Starts.{begin-holds}
 
 -- ---- a reclaim, and the report
 

@@ -25,14 +25,14 @@ use Rattle.laws.specs.Order.{length-targets, targets_open, length-placed}
 use Rattle.laws.specs.Reclaimed.{length-sources, few-sources}
 use Rattle.laws.specs.Gains.{victim-chosen}
 use Rattle.demands.specs.Flash.{Cell, erased, Seen, hole, see, contents}
-use Rattle.demands.specs.Shows.{vacate, vacate-ready}
+use Rattle.demands.proofs.Shows.{vacate, vacate-ready}
 use Rattle.laws.specs.Sound.{Storable}
 use Rattle.laws.specs.Calls.{call_plain}
 use Rattle.demands.specs.Host.{Ask, Op, programs, copies, to_do, ops, does, doing, marks, marking, AllAllowed, shown, reads, World, step, run, Programs}
-use Rattle.demands.specs.Reads.{read-passes, read_one-lists}
+use Rattle.demands.proofs.ReadBack.{read-passes, read_one-lists}
 use Rattle.laws.specs.Kept.{Taken, refusal-taken, keeps}
-use Rattle.demands.specs.Listed.{doing_append, marking_append, allowed_append, writes, programs-runs, writes-does, writes-marks, writes-allowed, copies-does, copies-marks, copies-allowed}
-use Rattle.demands.specs.Agrees.{Agrees, filled_up, cells, agrees-write, agrees-trim, agrees-reclaim}
+use Rattle.demands.proofs.Listed.{doing_append, marking_append, allowed_append, writes, programs-runs, writes-does, writes-marks, writes-allowed, copies-does, copies-marks, copies-allowed}
+use Rattle.demands.proofs.Agrees.{Agrees, filled_up, cells, agrees-write, agrees-trim, agrees-reclaim}
 
 -- ---- the outcome of an accepted call, and of a refused one
 

@@ -1,0 +1,17 @@
+pub mod Settle
+pub mod Shows
+pub mod Listed
+pub mod Agrees
+pub mod ReadBack
+pub mod Worlds
+pub mod Starts
+pub mod Refusals
+pub mod Shrinks
+pub mod Keeps
+pub mod Steps
+pub mod Traces
+pub mod Histories
+pub mod Settling
+pub mod Repeats
+pub mod Proved
+pub mod Witnesses
