@@ -1,3 +1,5 @@
+#![tactic(auto)]
+
 // What C and Rust are answered: a struct by value, made of what the layer answers. It is promised to say the same.
 ghost use Rattle.answers.specs.Said.{said_done, said_listed, said_counts};
 
@@ -5,7 +7,7 @@ use rules::{Counted, Done, Head, Listed};
 
 // What fresh, write, trim, read and reclaim answer: the refusal's number, or 0; the count, 0 where there is none; the head.
 #[repr(C)]
-#[derive(Drop)]
+#[derive(Clone, Copy)]
 pub struct Outcome {
     pub refusal: u32,
     pub count: u32,
@@ -14,7 +16,7 @@ pub struct Outcome {
 
 // What report answers.
 #[repr(C)]
-#[derive(Drop)]
+#[derive(Clone, Copy)]
 pub struct Counts {
     pub refusal: u32,
     pub free: u32,

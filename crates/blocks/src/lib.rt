@@ -1,3 +1,5 @@
+#![tactic(auto)]
+
 // The sound test, block by block: does each record stand as rules 3 and 5 ask? Words of the right shape are assumed, and the pages that the extents
 // have in each block. And what the records of a sound state come to: free, live and stale.
 ghost use Rattle.std.specs.Prelude.{◌≡◌, ℕ, ◌*◌, ◌<◌, ◌≤◌, length, get_or};
@@ -54,7 +56,7 @@ pub fn valid_ok(blk: &[u32], tally: &[u32], blocks: usize) -> bool
     off == 0
 }
 
-#[derive(Drop)]
+#[derive(Clone, Copy)]
 pub struct Totals {
     pub free: u32,
     pub live: u32,

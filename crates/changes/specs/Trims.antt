@@ -11,7 +11,7 @@ use Rattle.rules.specs.Counting.{sum, count}
 use Rattle.rules.specs.Extents.{none, lookup, slot, slots_from}
 use Rattle.rules.specs.Blocks.{valid_word}
 use Rattle.rules.specs.Lent.{Lent, lent, in_use, fill_of, valid_of}
-use Rattle.rules.specs.Device.{Device, blocks, at, mapped, valid, extents, device_of, head_of, words_of}
+use Rattle.rules.specs.Device.{Device, at, mapped, valid, extents, device_of, head_of, words_of}
 use Rattle.rules.specs.Request.{kept, with_table, trimmed}
 use Rattle.rules.specs.Calls.{Call, counts, leaves, lists, over}
 use Rattle.rules.specs.declared.Head.{Head}

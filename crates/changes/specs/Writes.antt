@@ -4,11 +4,11 @@ use Rattle.std.proofs.Math.Path.{refl, sym, ap}
 use Rattle.std.proofs.Common.{ap₂, ◌∙◌, subst, arith, length-append, get_or-take, length-take-le}
 use mathlib.Core.List.{List, [], ◌∷◌, ◌++◌}
 use Rattle.std.proofs.Math.ListN.{length, get_or-append}
-use Rattle.rules.specs.Counting.{one, count}
+use Rattle.rules.specs.Counting.{one}
 use Rattle.rules.specs.Extents.{none, extent, slot, slots_from, flat}
 use Rattle.rules.specs.Blocks.{stride, fill_word, valid_word, records}
 use Rattle.rules.specs.Lent.{Lent, lent, in_use, fill_of}
-use Rattle.rules.specs.Device.{Device, blocks, lines, fill, mapped, valid, extents, device_of, head_of, words_of}
+use Rattle.rules.specs.Device.{Device, blocks, fill, mapped, valid, extents, device_of, head_of, words_of}
 use Rattle.rules.specs.Placement.{puts, pieces}
 use Rattle.rules.specs.Request.{kept, with_table, numbered, written, trimmed}
 use Rattle.rules.specs.Calls.{Call, counts, leaves, lists, over}

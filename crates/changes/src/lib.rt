@@ -1,3 +1,5 @@
+#![tactic(auto)]
+
 // What a trim and a write change once nothing refuses them. That nothing does is required here (`Ready`), with what was found on the way to it; the answer
 // and the words are promised as the rules give them.
 ghost use Rattle.std.specs.Prelude.{◌≡◌, [], ◌+◌};

@@ -1,3 +1,5 @@
+#![tactic(auto)]
+
 // What a reclaim takes: its victim, the rank of each of the victim's mapped pages, which is where it goes in the reserve, and the list of copies. The records
 // and extents are assumed to be those of a sound state; but for the answer buffer nothing is changed.
 ghost use Rattle.std.specs.Prelude.{◌≡◌, ℕ, ◌+◌, ◌*◌, ◌%◌, ◌<◌, ◌≤◌, length, slice_index};

@@ -1,3 +1,5 @@
+#![tactic(auto)]
+
 // A range cut out of the extents, in place. Assumed are the extents of a sound state, the sides of the range among them and a slot for what is taken
 // apart; promised are the extents without the range, but for a gap among them that is still to be closed or filled.
 ghost use Rattle.std.specs.Prelude.{◌≡◌, ℕ, ◌+◌, ◌*◌, ◌<◌, ◌≤◌, length};

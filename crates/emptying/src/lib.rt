@@ -1,3 +1,5 @@
+#![tactic(auto)]
+
 // What a reclaim changes once nothing refuses it. That nothing does is required here (`Ready`), with the victim that was found on the way to it; the answer and the words
 // are promised as the rules give them.
 ghost use Rattle.std.specs.Prelude.{◌≡◌};

@@ -1,3 +1,5 @@
+#![tactic(auto)]
+
 // The six calls on lent words. Each takes any head, any words of any lengths and any request, and promises one equality: the answer and
 // every lent word afterwards are what the rules give of what was lent. Nothing is changed before the verdict is accepted:
 // until then a trim, a write and a reclaim look at the words through shared borrows (e, b, s).

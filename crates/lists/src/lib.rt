@@ -1,6 +1,8 @@
+#![tactic(auto)]
+
 // Request lists (docs/REPLAY.md), read and printed: what a line asks or what is wrong with it, and the answers as they are printed. Nothing here
 // knows what answers the requests, and no fact about an answer is counted on.
-ghost use Rattle.io.specs.Counts.{IsPrefixLen};
+ghost use Rattle.std.specs.Counts.{IsPrefixLen};
 
 pub mod line;
 pub mod print;

@@ -41,7 +41,7 @@ pub enum Asked {
     State,
 }
 
-#[derive(Drop)]
+#[derive(Clone, Copy)]
 pub struct Line {
     pub is_empty: bool,
     pub is_note: bool,

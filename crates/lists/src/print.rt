@@ -1,7 +1,8 @@
 // Answers on their way to standard output, a page of bytes at a time.
 use crate::within;
-use libc::STDOUT_FILENO;
 use rules::{Head, Refusal};
+use std::io;
+use std::io::Stdout;
 use words::number_of;
 
 // What is printed for a request, but for a state. The words of a list of pieces or of copied pages stand in the answer buffer.
@@ -16,18 +17,20 @@ pub enum Answer {
     Wrong(u64, u64),
 }
 
-// How many bytes of the page wait, and whether all before them were written.
-#[derive(Drop)]
+// How many bytes of the page wait, and the error of the write that failed, if one did.
+#[derive(Clone, Copy)]
 pub struct Sink {
+    to: Stdout,
     pub waiting: usize,
-    pub is_written: bool,
+    pub failure: Option<io::Error>,
 }
 
 impl Sink {
-    pub fn new() -> Self {
+    pub fn new(to: Stdout) -> Self {
         Self {
+            to: to,
             waiting: 0,
-            is_written: true,
+            failure: None,
         }
     }
 
@@ -40,14 +43,14 @@ impl Sink {
     fn emptied(mut self, page: &[u8]) -> Self {
         let n = self.waiting;
         self.waiting = 0;
-        if !self.is_written {
+        if self.failure.is_some() {
             return self;
         }
         if n > page.len() {
             return self;
         }
-        if !io::write_all(STDOUT_FILENO, &page[..n]) {
-            self.is_written = false;
+        if let Err(error) = self.to.write_all(&page[..n]) {
+            self.failure = Some(error);
         }
         self
     }
@@ -76,9 +79,8 @@ impl Sink {
     }
 
     pub fn number(self, page: &mut [u8; 4096], n: u64) -> Self {
-        let mut digits = [0u8; 20];
-        let k = io::decimal(n, &mut digits);
-        self.text(page, &digits[..k])
+        let mut digits = itoa::Buffer::new();
+        self.text(page, digits.format(n).as_bytes())
     }
 
     // A word and a space in front of it.
@@ -129,7 +131,7 @@ impl Sink {
     pub fn name(self, page: &mut [u8; 4096], number: u64) -> Self {
         self.row(
             page,
-            b"Shape\n_damaged\n_range\n_applied\n_no_pages\n_no_nodes\n_out_short\n_nothing_stale\n",
+            b"Shape\nDamaged\nRange\nApplied\nNoPages\nNoNodes\nOutShort\nNothingStale\n",
             number,
             0,
         )
@@ -226,4 +228,19 @@ fn rows_left(left: u64, byte: u8) -> u64 {
 
 fn wide(n: u32) -> u64 {
     n as u64
+}
+
+// Says on standard error what failed, and why: in the words of the error, without its number.
+pub fn fail<R: Eprint + Alloc>(rt: &R, what: &str, error: io::Error) {
+    let _ = match format!(in rt.alloc(); "{error}") {
+        Ok(text) => eprintln!(rt; "{what}: {}", reason(text.as_str())),
+        Err(_) => eprintln!(rt; "{what}: {error}"),
+    };
+}
+
+fn reason(text: &str) -> &str {
+    match text.split_once(" (os error ") {
+        Some((reason, _)) => reason,
+        None => text,
+    }
 }

@@ -39,7 +39,7 @@ pub const RESERVE: u64 = 0x0172_6573_6572_7665;
 
 pub const LAST: u64 = 0x0001_6c61_7374;
 
-#[derive(Drop)]
+#[derive(Clone, Copy)]
 pub struct Word {
     pub is_empty: bool,
     pub name: u64,

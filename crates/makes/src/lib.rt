@@ -1,3 +1,5 @@
+#![tactic(auto)]
+
 // What begins a history, once nothing refuses it: a fresh device. It takes no heed of what the words held; that they fit its sizes is required here.
 ghost use Rattle.std.specs.Prelude.{◌≡◌, true, [], length};
 ghost use Rattle.rules.specs.Shape.{shape};

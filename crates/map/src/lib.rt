@@ -1,3 +1,5 @@
+#![tactic(auto)]
+
 // The extents of a sound state: where a page and a range meet them, found by halving the slots; extents let in, and slots that go. `Holds` says that words are
 // extents in their first slots and zeros behind; whatever changes the map, here, in `cutting` and in `putting`, leaves it so.
 ghost use Rattle.std.specs.Prelude.{◌≡◌, ◌+◌, ◌*◌, ◌<◌, ◌≤◌, ◌^◌, length};
@@ -38,7 +40,7 @@ pub fn first_after(ext: &[u32], used: usize, page: u64) -> usize
 }
 
 // A place in the extents in use that is to be closed or filled: the slots from `from` up to `to` are to go.
-#[derive(Drop)]
+#[derive(Clone, Copy)]
 pub struct Gap {
     pub used: usize,
     pub from: usize,
@@ -47,7 +49,7 @@ pub struct Gap {
 
 // Where a range meets the extents in use: the first slot that ends after the range begins, how many extents start before it, and how many
 // end after it.
-#[derive(Drop)]
+#[derive(Clone, Copy)]
 pub struct Sides {
     pub first: usize,
     pub before: usize,

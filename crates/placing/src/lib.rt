@@ -1,3 +1,5 @@
+#![tactic(auto)]
+
 // A write's pages placed: the blocks in turn from the one that it starts with (`starting`), each with what it has room for, the reserve never. One that has room
 // for all pages takes them all.
 ghost use Rattle.std.specs.Prelude.{◌≡◌, ◌+◌, ◌<◌, ◌^◌};

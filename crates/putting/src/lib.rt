@@ -1,3 +1,5 @@
+#![tactic(auto)]
+
 // A write's pieces put into the extents, in place, where its range was cut out: assumed are the gap that it left, whether the first joins the extent in
 // front of it, and slots enough; promised is the list of extents with them, and zeros behind it.
 ghost use Rattle.std.specs.Prelude.{◌≡◌, ◌+◌, ◌-◌, ◌<◌, ◌≤◌, ◌^◌, min, length};

@@ -1,3 +1,5 @@
+#![tactic(auto)]
+
 // What a read finds in the extents. Two walks over the slots that the range meets: one counts the pieces, and one lays them into the answer
 // buffer. Both take the first of these slots.
 ghost use Rattle.std.specs.Prelude.{◌≡◌, ◌+◌, ◌*◌, ◌<◌, ◌≤◌, [], length};

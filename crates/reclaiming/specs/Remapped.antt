@@ -5,7 +5,6 @@ use Rattle.std.proofs.Math.Logic.{by_cases}
 use Rattle.std.proofs.Math.Decide.{ℕ_discrete}
 use borrow.Author.Tests.{eq-eqb, ne_eqb}
 use Rattle.std.proofs.Math.Arith.{digits_div}
-use Rattle.rules.specs.Counting.{count}
 use Rattle.rules.specs.Extents.{extent, joinable, join}
 use Rattle.rules.specs.declared.Extent.{Extent}
 use Rattle.laws.specs.Bools.{cases, never, same_test}

@@ -7,7 +7,6 @@ use Rattle.std.proofs.Math.Decide.{dec_lt}
 use borrow.Rule.Slice.PartMut.{mid_of, put_mid}
 use Rattle.std.proofs.lemmas.List.Edits.{sets}
 use Rattle.std.proofs.Math.Seq.{length-sets}
-use Rattle.rules.specs.Counting.{count}
 use Rattle.rules.specs.Extents.{none, extent, end, joinable, slot, put_slot, slots_from}
 use Rattle.rules.specs.declared.Extent.{Extent}
 use Rattle.laws.specs.Bools.{and_split}

@@ -1,3 +1,5 @@
+#![tactic(auto)]
+
 // What a reclaim does to lent words: the labels, the block records and the map, each by itself. It stands behind the refusals: what a sound
 // state promises is required here.
 ghost use Rattle.std.specs.Prelude.{◌≡◌, ℕ, ◌+◌, ◌*◌, ◌<◌, ◌≤◌, length, take, slice_index};

@@ -1,6 +1,6 @@
--- Reading over records asks nothing, answers as demand 1 says of the read over the records' flat words, and its contract allows one result. The borrow checker
--- covers no function over `&[Extent]`, so there is no `Post` of its making: `contract_is` says that the contract which the walk is held to is, in every model,
--- the plain fact `Post`, and that it asks nothing. Of the arguments a, and of the parameters at exit s, `.0` is the first and `.1` the others.
+-- Reading over records asks nothing, answers as demand 1 says of the read over the records' flat words, and its contract allows one result. `asks-is` and
+-- `contract_is` say that the contract to which the function is held asks nothing, and is in every model the plain fact `Post`. Of the arguments a, and of the
+-- parameters at exit s, `.0` is the first and `.1` the others.
 use mathlib.Core.Path.{◌≡◌, refl}
 use base.Logic.{emp}
 use contract.Monad.{fact}

@@ -1,6 +1,7 @@
-// Reading over a slice of extents. The borrow checker covers no function over `&[Extent]`, so `flatten`, which lays the extents into flat
-// words, and `read_records`, which lends a local array to it and then reads, are thin and are proved by hand; all refusals stand in
-// covered code.
+#![tactic(auto)]
+
+// Reading over a slice of extents: `flatten` lays the extents into flat words, and `read_records` lends a local array to it and then reads
+// over those words.
 ghost use Rattle.std.specs.Prelude.{◌≡◌, ℕ, ◌*◌, ◌≤◌, List, length};
 ghost use Rattle.rules.specs.Answers.{listed, outcome};
 ghost use Rattle.rules.specs.Calls.{Call, call};

@@ -1,8 +1,9 @@
 // The accounts of the device: the valid count of each block, and what the layer reports.
 use crate::device::Device;
 use crate::say;
+use lists::print::Sink;
 
-#[derive(Drop)]
+#[derive(Clone, Copy)]
 pub struct Accounts {
     pub valid: [u32; 4],
     // Free, live and stale, and a 0.
@@ -10,21 +11,21 @@ pub struct Accounts {
 }
 
 impl Accounts {
-    pub fn now(d: Device) -> Self {
+    pub fn now(sink: &mut Sink, d: Device) -> Self {
         let valid = d.valid();
-        let pages = d.report();
+        let pages = d.report(sink);
         Self {
             valid: valid,
             pages: pages,
         }
     }
 
-    pub fn say(self, when: &[u8]) {
+    pub fn say(self, sink: &mut Sink, when: &[u8]) {
         let valid = self.valid;
         let pages = self.pages;
-        say::text(when);
-        say::filled(b"valid # # # #", valid);
-        say::filled(b"   free #   live #   stale #\n", pages);
+        say::text(sink, when);
+        say::filled(sink, b"valid # # # #", valid);
+        say::filled(sink, b"   free #   live #   stale #\n", pages);
     }
 
     pub fn is(self, other: Self) -> bool {

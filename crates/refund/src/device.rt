@@ -1,12 +1,13 @@
 // The device as its host keeps it: the head, and the words that are lent to each call. It is small, so it is handed on whole. A refusal is
 // told where it comes.
 use crate::say;
+use lists::print::Sink;
 use rules::{Counted, Done, Head, Listed};
 
 // The words of the records of four blocks.
 pub const BLOCK_WORDS: usize = words::STRIDE * 4;
 
-#[derive(Drop)]
+#[derive(Clone, Copy)]
 pub struct Device {
     pub head: Head,
     pub ext: [u32; 24],
@@ -14,7 +15,7 @@ pub struct Device {
     pub spare: [u32; 16],
 }
 
-#[derive(Drop)]
+#[derive(Clone, Copy)]
 pub struct Write {
     pub number: u64,
     pub start: u32,
@@ -31,12 +32,12 @@ pub struct Answer {
 }
 
 impl Device {
-    pub fn fresh() -> Self {
+    pub fn fresh(sink: &mut Sink) -> Self {
         let mut ext = [0u32; 24];
         let mut blk = [0u32; BLOCK_WORDS];
         let mut spare = [0u32; 16];
         let done = layer::fresh(4, 4, 8, 8, &mut ext, &mut blk, &mut spare);
-        let head = begun(done);
+        let head = begun(sink, done);
         Self {
             head: head,
             ext: ext,
@@ -45,7 +46,7 @@ impl Device {
         }
     }
 
-    pub fn write(self, write: Write) -> Answer {
+    pub fn write(self, sink: &mut Sink, write: Write) -> Answer {
         let head = self.head;
         let mut ext = self.ext;
         let mut blk = self.blk;
@@ -61,31 +62,31 @@ impl Device {
             write.count,
             &mut out,
         );
-        answered(listed, ext, blk, spare, out)
+        answered(sink, listed, ext, blk, spare, out)
     }
 
-    pub fn reclaim(self) -> Answer {
+    pub fn reclaim(self, sink: &mut Sink) -> Answer {
         let head = self.head;
         let mut ext = self.ext;
         let mut blk = self.blk;
         let mut spare = self.spare;
         let mut out = [0u32; 12];
         let listed = layer::reclaim(head, &mut ext, &mut blk, &mut spare, &mut out);
-        answered(listed, ext, blk, spare, out)
+        answered(sink, listed, ext, blk, spare, out)
     }
 
-    pub fn read(self, start: u32, count: u32) -> Answer {
+    pub fn read(self, sink: &mut Sink, start: u32, count: u32) -> Answer {
         let head = self.head;
         let ext = self.ext;
         let blk = self.blk;
         let spare = self.spare;
         let mut out = [0u32; 12];
         let listed = layer::read(head, &ext, &blk, &spare, start, count, &mut out);
-        answered(listed, ext, blk, spare, out)
+        answered(sink, listed, ext, blk, spare, out)
     }
 
     // Free, live and stale, and a 0.
-    pub fn report(self) -> [u32; 4] {
+    pub fn report(self, sink: &mut Sink) -> [u32; 4] {
         let head = self.head;
         let ext = self.ext;
         let blk = self.blk;
@@ -93,7 +94,7 @@ impl Device {
         match layer::report(head, &ext, &blk, &spare) {
             Counted::Accepted(free, live, stale, _) => [free, live, stale, 0],
             Counted::Refused(refusal, _) => {
-                say::refused(refusal);
+                say::refused(sink, refusal);
                 [0; 4]
             }
         }
@@ -111,17 +112,18 @@ impl Device {
     }
 }
 
-fn begun(done: Done) -> Head {
+fn begun(sink: &mut Sink, done: Done) -> Head {
     match done {
         Done::Accepted(head) => head,
         Done::Refused(refusal, head) => {
-            say::refused(refusal);
+            say::refused(sink, refusal);
             head
         }
     }
 }
 
 fn answered(
+    sink: &mut Sink,
     listed: Listed,
     ext: [u32; 24],
     blk: [u32; BLOCK_WORDS],
@@ -141,7 +143,7 @@ fn answered(
             out: out,
         },
         Listed::Refused(refusal, head) => {
-            say::refused(refusal);
+            say::refused(sink, refusal);
             Answer {
                 device: Device {
                     head: head,

@@ -3,33 +3,53 @@
 ghost use Rattle.std.specs.Prelude.{◌≤◌};
 
 use crate::say;
+use lists::print::Sink;
 
 pub const ERASED: u32 = 4294967295;
 
 pub const FIRST_LINE: u32 = 4414;
 
 // The pieces of a write's answer, programmed.
-pub fn program(flash: &mut [u32; 16], book: &[u32; 8], out: &[u32; 12], pieces: u32) {
+pub fn program(
+    sink: &mut Sink,
+    flash: &mut [u32; 16],
+    book: &[u32; 8],
+    out: &[u32; 12],
+    pieces: u32,
+) {
     let mut i: u32 = 0;
     while i < pieces {
         if i >= 4 {
             return;
         }
         let at = 3 * i as usize;
-        program_piece(flash, book, out[at], out[at + 1], out[at + 2]);
+        program_piece(sink, flash, book, out[at], out[at + 1], out[at + 2]);
         i += 1;
     }
 }
 
-fn program_piece(flash: &mut [u32; 16], book: &[u32; 8], logical: u32, physical: u32, count: u32) {
+fn program_piece(
+    sink: &mut Sink,
+    flash: &mut [u32; 16],
+    book: &[u32; 8],
+    logical: u32,
+    physical: u32,
+    count: u32,
+) {
     let mut k: u32 = 0;
     while k < count {
-        program_page(flash, book, sum(logical, k), sum(physical, k));
+        program_page(sink, flash, book, sum(logical, k), sum(physical, k));
         k += 1;
     }
 }
 
-fn program_page(flash: &mut [u32; 16], book: &[u32; 8], logical: usize, physical: usize) {
+fn program_page(
+    sink: &mut Sink,
+    flash: &mut [u32; 16],
+    book: &[u32; 8],
+    logical: usize,
+    physical: usize,
+) {
     if logical >= 8 {
         return;
     }
@@ -37,37 +57,38 @@ fn program_page(flash: &mut [u32; 16], book: &[u32; 8], logical: usize, physical
         return;
     }
     let cents = book[logical];
-    put(flash, physical, cents);
+    put(sink, flash, physical, cents);
     say::filled(
+        sink,
         b"     page #: line #   $\n",
         [physical as u32, FIRST_LINE + logical as u32, cents, 0],
     );
 }
 
 // Programs a page, which must be erased.
-fn put(flash: &mut [u32; 16], page: usize, cents: u32) {
+fn put(sink: &mut Sink, flash: &mut [u32; 16], page: usize, cents: u32) {
     if page >= 16 {
         return;
     }
     if flash[page] != ERASED {
-        say::text(b"     a page is programmed twice: ");
+        say::text(sink, b"     a page is programmed twice: ");
     }
     flash[page] = cents;
 }
 
 // The source pages of a reclaim's answer, copied into a block from its first page on.
-pub fn copy(flash: &mut [u32; 16], out: &[u32; 12], pages: u32, block: u32) {
+pub fn copy(sink: &mut Sink, flash: &mut [u32; 16], out: &[u32; 12], pages: u32, block: u32) {
     let mut i: u32 = 0;
     while i < pages {
         if i >= 12 {
             return;
         }
-        copy_page(flash, out[i as usize], page_of(block, i));
+        copy_page(sink, flash, out[i as usize], page_of(block, i));
         i += 1;
     }
 }
 
-fn copy_page(flash: &mut [u32; 16], from: u32, to: usize) {
+fn copy_page(sink: &mut Sink, flash: &mut [u32; 16], from: u32, to: usize) {
     if from >= 16 {
         return;
     }
@@ -75,16 +96,18 @@ fn copy_page(flash: &mut [u32; 16], from: u32, to: usize) {
         return;
     }
     let cents = flash[from as usize];
-    put(flash, to, cents);
+    put(sink, flash, to, cents);
     say::filled(
+        sink,
         b"     page # is copied to page #: $\n",
         [from, to as u32, cents, 0],
     );
 }
 
-pub fn erase(flash: &mut [u32; 16], block: u32) {
+pub fn erase(sink: &mut Sink, flash: &mut [u32; 16], block: u32) {
     erase_pages(flash, block);
     say::one(
+        sink,
         b"     block # is erased and becomes the reserve\n",
         block as u64,
     );
@@ -105,7 +128,13 @@ fn erase_page(flash: &mut [u32; 16], page: usize) {
 }
 
 // The pieces of a read's answer, each page held to the book. Answers how many are as they were written.
-pub fn compare(flash: &[u32; 16], book: &[u32; 8], out: &[u32; 12], pieces: u32) -> u64 {
+pub fn compare(
+    sink: &mut Sink,
+    flash: &[u32; 16],
+    book: &[u32; 8],
+    out: &[u32; 12],
+    pieces: u32,
+) -> u64 {
     let mut right: u64 = 0;
     let mut i: u32 = 0;
     while i < pieces {
@@ -113,51 +142,65 @@ pub fn compare(flash: &[u32; 16], book: &[u32; 8], out: &[u32; 12], pieces: u32)
             return right;
         }
         let at = 3 * i as usize;
-        right += compare_piece(flash, book, out[at], out[at + 1], out[at + 2]) as u64;
+        right += compare_piece(sink, flash, book, out[at], out[at + 1], out[at + 2]) as u64;
         i += 1;
     }
     right
 }
 
-fn compare_piece(flash: &[u32; 16], book: &[u32; 8], logical: u32, physical: u32, count: u32) -> u32
+fn compare_piece(
+    sink: &mut Sink,
+    flash: &[u32; 16],
+    book: &[u32; 8],
+    logical: u32,
+    physical: u32,
+    count: u32,
+) -> u32
     ensures { result ≤ count }
 {
     let mut right: u32 = 0;
     let mut k: u32 = 0;
     while k < count {
-        right += compare_page(flash, book, sum(logical, k), sum(physical, k));
+        right += compare_page(sink, flash, book, sum(logical, k), sum(physical, k));
         k += 1;
     }
     right
 }
 
 // 1 where the page holds what was written, and 0 where it does not.
-fn compare_page(flash: &[u32; 16], book: &[u32; 8], logical: usize, physical: usize) -> u32
+fn compare_page(
+    sink: &mut Sink,
+    flash: &[u32; 16],
+    book: &[u32; 8],
+    logical: usize,
+    physical: usize,
+) -> u32
     ensures { result ≤ 1 }
 {
     if logical >= 8 {
         return 0;
     }
     if physical >= 16 {
-        say::text(b"     a hole\n");
+        say::text(sink, b"     a hole\n");
         return 0;
     }
     let cents = flash[physical];
     say::filled(
+        sink,
         b"     line #   $   from page #, ",
         [FIRST_LINE + logical as u32, cents, physical as u32, 0],
     );
-    judged(cents, book[logical])
+    judged(sink, cents, book[logical])
 }
 
-fn judged(found: u32, written: u32) -> u32
+fn judged(sink: &mut Sink, found: u32, written: u32) -> u32
     ensures { result ≤ 1 }
 {
     if found != written {
-        say::text(b"NOT as written\n");
+        say::text(sink, b"NOT as written\n");
         return 0;
     }
-    say::text(b"as written\n");
+    say::text(sink, b"as written\n");
     1
 }
 

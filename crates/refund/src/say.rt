@@ -1,27 +1,26 @@
-// Words, numbers and sums of money on standard output. Where it cannot be printed on, standard error says why, once.
-use libc::{STDERR_FILENO, STDOUT_FILENO};
+// Words, numbers and sums of money on standard output. Where it cannot be printed on, nothing follows, and `main` says why.
 use lists::print::Sink;
 use rules::Refusal;
 use words::number_of;
 
-pub fn text(text: &[u8]) {
-    if !io::write_all(STDOUT_FILENO, text) {
-        stop();
-    }
+pub fn text(sink: &mut Sink, text: &[u8]) {
+    let mut page = [0u8; 4096];
+    let s = sink.text(&mut page, text);
+    printed(sink, s, &page);
 }
 
 // The text with the number in the place of `#`.
-pub fn one(text: &[u8], number: u64) {
-    let mut page = io::buffer();
-    let s = Sink::new().row(&mut page, text, 1, number);
-    printed(s, &page);
+pub fn one(sink: &mut Sink, text: &[u8], number: u64) {
+    let mut page = [0u8; 4096];
+    let s = sink.row(&mut page, text, 1, number);
+    printed(sink, s, &page);
 }
 
 // The text with the numbers, one after the other, in the places of `#` and, as sums of money, in those of `$`.
-pub fn filled(text: &[u8], numbers: [u32; 4]) {
-    let mut page = io::buffer();
-    let s = laid(Sink::new(), &mut page, text, numbers);
-    printed(s, &page);
+pub fn filled(sink: &mut Sink, text: &[u8], numbers: [u32; 4]) {
+    let mut page = [0u8; 4096];
+    let s = laid(*sink, &mut page, text, numbers);
+    printed(sink, s, &page);
 }
 
 fn laid(sink: Sink, page: &mut [u8; 4096], text: &[u8], numbers: [u32; 4]) -> Sink {
@@ -67,25 +66,16 @@ fn money(sink: Sink, page: &mut [u8; 4096], cents: u32) -> Sink {
         .number(page, c % 10)
 }
 
-fn printed(sink: Sink, page: &[u8; 4096]) {
-    let after = sink.flushed(page);
-    if !after.is_written {
-        stop();
-    }
+// Writes what waits in the page.
+fn printed(sink: &mut Sink, waiting: Sink, page: &[u8; 4096]) {
+    *sink = waiting.flushed(page);
 }
 
-// Says why the last write failed. With both streams closed nothing is printed after a gap, and nothing said again.
-fn stop() {
-    os::fail(b"standard output");
-    libc::close(STDOUT_FILENO);
-    libc::close(STDERR_FILENO);
-}
-
-pub fn refused(refusal: Refusal) {
+pub fn refused(sink: &mut Sink, refusal: Refusal) {
     let number = number_of(refusal) as u64;
-    let mut page = io::buffer();
-    let s = Sink::new()
+    let mut page = [0u8; 4096];
+    let s = sink
         .row(&mut page, b"     refused #, ", 1, number)
         .name(&mut page, number);
-    printed(s, &page);
+    printed(sink, s, &page);
 }

@@ -1,3 +1,5 @@
+#![tactic(auto)]
+
 // A verdict, the first refusal of several in the paper's order, and the two tests that a request answers for by itself: its range and its number. What a
 // verdict comes to for a call is said here too (specs, Accepts).
 ghost use Rattle.std.specs.Prelude.{◌≡◌, not, ◌||◌, ◌+◌, eqb, ltb};
@@ -8,7 +10,7 @@ ghost use Rattle.refusals.specs.Numbered.{number_refusal};
 
 use rules::{Head, Refusal};
 
-#[derive(Drop)]
+#[derive(Clone, Copy)]
 pub enum Verdict {
     Accepted,
     Refused(Refusal),

@@ -21,7 +21,7 @@ pub const SPARE_WORDS: usize = MOST_PAGES;
 pub const ANSWER_WORDS: usize = 6 * MOST_SLOTS + 3;
 
 // The head, and how many words of each buffer are lent.
-#[derive(Drop)]
+#[derive(Clone, Copy)]
 pub struct Device {
     pub head: Head,
     pub extents: usize,

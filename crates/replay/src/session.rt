@@ -4,6 +4,7 @@ use crate::device::{ANSWER_WORDS, BLOCK_WORDS, Device, EXTENT_WORDS, SPARE_WORDS
 use lists::line::{Asked, Line};
 use lists::print::{Answer, Sink};
 use lists::{within, word};
+use std::io::Stdout;
 
 #[derive(Drop)]
 pub struct Session {
@@ -15,12 +16,12 @@ pub struct Session {
 }
 
 impl Session {
-    pub fn new() -> Self {
+    pub fn new(to: Stdout) -> Self {
         Self {
             line: Line::new(),
             lines: 0,
             device: Device::new(),
-            sink: Sink::new(),
+            sink: Sink::new(to),
         }
     }
 

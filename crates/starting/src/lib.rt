@@ -1,3 +1,5 @@
+#![tactic(auto)]
+
 // Where a write starts: with the block that has room for all of its pages, the lowest-numbered, or else in 01's order. The order is known here and nowhere else in
 // the code: `start_block` finds that block, in one pass over the records, and the walks over the blocks go on from there, each block taking what it has room for.
 ghost use Rattle.std.specs.Prelude.{◌≡◌, ℕ, ◌*◌, ◌≤◌, ◌<◌, eqb, length};
@@ -26,7 +28,7 @@ pub fn room_in(blk: &[u32], b: usize, n: u32, reserve: u32, want: u32) -> u32
 }
 
 // Where a write starts: the block of its first page, and that page.
-#[derive(Drop)]
+#[derive(Clone, Copy)]
 pub struct Start {
     pub block: usize,
     pub page: u32,

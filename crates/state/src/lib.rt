@@ -1,3 +1,5 @@
+#![tactic(auto)]
+
 // Refusals 1 and 2 on lent words: `shape_ok` takes any head and any lengths, `is_sound` words of the right shape. Each promises the rules' own test, and
 // nothing is changed.
 ghost use Rattle.std.specs.Prelude.{◌≡◌, true, ◌*◌, length};

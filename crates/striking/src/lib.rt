@@ -1,3 +1,5 @@
+#![tactic(auto)]
+
 // The pages of a range struck off the valid counts of their blocks, each of them once. The extents are assumed to be those of a sound state, before the
 // range is cut out of them; promised is what each block has left, and that no fill changes.
 ghost use Rattle.std.specs.Prelude.{◌≡◌, ◌+◌, ◌-◌, ◌*◌, ◌/◌, ◌<◌, ◌≤◌, min, max, [], ◌∷◌, length};

@@ -1,6 +1,7 @@
+#![tactic(auto)]
+
 // What C and Rust call: each call of the layer, and the read over records, under its name in include/utasiro.h, with its answer as a struct
-// by value. The promises are theirs, through what a struct says. The borrow checker does not cover a function over `&[Extent]`, so
-// `utasiro_read_records` is proved by hand, and does nothing but hand on.
+// by value. The promises are theirs, through what a struct says.
 ghost use Rattle.std.specs.Prelude.{◌≡◌, []};
 ghost use Rattle.rules.specs.Lent.{lent};
 ghost use Rattle.rules.specs.Answers.{outcome};

@@ -1,3 +1,5 @@
+#![tactic(auto)]
+
 // What a call is refused for, the first refusal that applies in the paper's order, decided over shared slices before anything is touched. A write's
 // verdict stands in `writable`.
 ghost use Rattle.std.specs.Prelude.{◌≡◌, ◌+◌};

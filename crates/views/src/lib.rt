@@ -1,3 +1,5 @@
+#![tactic(auto)]
+
 // What a call that changes nothing answers, once nothing refuses it: a report, a read. That nothing does is required here (`Ready`), with what was found on the way to
 // it; the answer is promised as the rules give it.
 ghost use Rattle.std.specs.Prelude.{◌≡◌, true, []};

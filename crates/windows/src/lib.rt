@@ -1,3 +1,5 @@
+#![tactic(auto)]
+
 // The labels of one slot, compared with its logical pages a window of W words at a time, so that no label is left to a step of its own: the window of a short
 // slot is masked, with a part of a table of W ones and W zeros, and the last window of a longer one ends where the slot does.
 ghost use Rattle.std.specs.Prelude.{◌≡◌, ℕ, ◌+◌, ◌<◌, ◌≤◌, max, length, get_or};

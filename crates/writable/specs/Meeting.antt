@@ -5,7 +5,7 @@ use Rattle.std.proofs.Common.{ap, ◌∙◌, arith}
 use Rattle.rules.specs.Counting.{one}
 use Rattle.rules.specs.Extents.{extent}
 use Rattle.rules.specs.Lent.{Lent, in_use}
-use Rattle.rules.specs.Device.{Device, blocks, lines, free, extents, device_of}
+use Rattle.rules.specs.Device.{Device, lines, free, extents, device_of}
 use Rattle.rules.specs.Placement.{puts, pieces}
 use Rattle.laws.specs.Device.{SoundDevice}
 use Rattle.laws.specs.Sound.{Shaped, SoundState}

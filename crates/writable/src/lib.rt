@@ -1,3 +1,5 @@
+#![tactic(auto)]
+
 // What a write of a sound state is refused for, and where its new extents meet the old ones: found first, for any range, then handed to the verdict and to
 // the change. Nothing is changed here.
 ghost use Rattle.std.specs.Prelude.{◌≡◌, ◌+◌, ◌≤◌};
@@ -15,7 +17,7 @@ use rules::{Head, Refusal};
 
 // Where a write's new extents meet the old ones: the sides of its range, the block that its pages start with, and whether the last extent
 // before it and the first new one are joinable.
-#[derive(Drop)]
+#[derive(Clone, Copy)]
 pub struct Meeting {
     pub sides: Sides,
     pub from: usize,
