@@ -5,7 +5,7 @@ use Rattle.std.proofs.Math.Path.{ap}
 use Rattle.std.proofs.Math.Logic.{by_cases}
 use Rattle.std.proofs.Math.Decide.{ℕ_discrete}
 use Rattle.rules.specs.Lent.{Lent}
-use Rattle.rules.specs.Device.{Device, lines, device_of, head_of, words_of}
+use Rattle.rules.specs.Device.{Device, device_of, head_of, words_of}
 use Rattle.rules.specs.Answers.{Outcome}
 use Rattle.rules.specs.Calls.{Call, refusal, refused, accepted, plain_call, encoded}
 use Rattle.laws.specs.Sound.{Storable}

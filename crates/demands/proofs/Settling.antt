@@ -7,7 +7,7 @@ use Rattle.std.proofs.Math.Decide.{ℕ_discrete}
 use Rattle.rules.specs.Lent.{Lent}
 use Rattle.rules.specs.Shape.{shaped}
 use Rattle.rules.specs.Sound.{sound}
-use Rattle.rules.specs.Device.{Device, blocks, lines, stale, free, extents, device_of, head_of, words_of}
+use Rattle.rules.specs.Device.{Device, lines, stale, free, extents, device_of, head_of, words_of}
 use Rattle.rules.specs.Placement.{targets, puts, places, pieces}
 use Rattle.rules.specs.Reclaim.{victim, reclaimed}
 use Rattle.rules.specs.Answers.{Outcome}

@@ -92,9 +92,9 @@ write-shows l (b ∷ bs) (x ∷ xs) d f s c v h g =
       clean = w.clean;
       shows = λ i. elim i as (λ m. (j : ℕ) → m < length (x ∷ xs) → j ≡ l + m
           → contents (puts_at l (b ∷ bs) d) (program (places_at l (b ∷ bs) d) (x ∷ xs) f) j ≡ cell (value (get_or (x ∷ xs) m 0))) [
-        | zero ↦ λ j t e. let q : j ≡ l = omega arith in w.keeps j (λ p q. omega arith) ∙ rw q (put-shows d s f c b v.0 l a x)
-        | suc m ↦ λ j t e. w.shows m j (omega arith) (omega arith)
-      ];
+            | zero ↦ λ j t e. let q : j ≡ l = omega arith in w.keeps j (λ p q. omega arith) ∙ rw q (put-shows d s f c b v.0 l a x)
+            | suc m ↦ λ j t e. w.shows m j (omega arith) (omega arith)
+          ];
       keeps = λ k t. w.keeps k (λ p q. t (omega arith) (omega arith)) ∙ put_keeps d s f c b v.0 l a x k (λ e. t (omega arith) (omega arith));
     }
 

@@ -5,7 +5,7 @@ use Rattle.std.proofs.Math.Path.{fun_ext}
 use Rattle.std.proofs.Math.Arith.{digits_mod}
 use Rattle.std.proofs.lemmas.List.{length-map}
 use Rattle.rules.specs.Extents.{none, runs}
-use Rattle.rules.specs.Device.{Device, blocks, lines, at, named, stale, extents}
+use Rattle.rules.specs.Device.{Device, blocks, lines, named, stale, extents}
 use Rattle.rules.specs.Placement.{puts_at, places_at}
 use Rattle.rules.specs.Request.{with_table, trimmed}
 use Rattle.rules.specs.Reclaim.{victim, goes, reclaimed_at, reclaimed}

@@ -9,7 +9,7 @@ use Rattle.std.proofs.Math.ListN.{get_or, length-set, length-map, get_or-map}
 use Rattle.std.proofs.Math.Seq.{get_or-set_same, get_or-set_other}
 use Rattle.rules.specs.Counting.{count, picks}
 use Rattle.rules.specs.Extents.{none}
-use Rattle.rules.specs.Device.{Device, blocks, lines, at, fill, label, named, valid, live}
+use Rattle.rules.specs.Device.{Device, blocks, lines, at, fill, label, named, valid}
 use Rattle.rules.specs.Reclaim.{sources, goes, moved, reclaimed_at}
 use Rattle.laws.specs.Sums.{count_rise}
 use Rattle.laws.specs.Picks.{length-picks, picks_at, Picked, picked}
