@@ -6,7 +6,7 @@
  * theirs to keep.
  *
  * Linking
- *   libutasiro.a, which `rt staticlib utasiro` writes to target/staticlib, for x86-64
+ *   libutasiro.a, which `rt lib` in crates/utasiro writes to its folder out, for x86-64
  *   Linux, System V calling convention. `tools/install PREFIX` puts it, this header and
  *   utasiro.pc where `pkg-config --cflags --libs utasiro` finds them. It needs memset; the
  *   compiler may have a later version need memcpy and memmove too. It needs nothing else:

@@ -1,4 +1,4 @@
-//! Finds libutasiro.a, the proved library, in the folder that UTASIRO_LIB_DIR names, or where `rt staticlib utasiro`
+//! Finds libutasiro.a, the proved library, in the folder that UTASIRO_LIB_DIR names, or where `rt lib` in crates/utasiro
 //! writes it, and refuses one for another processor than this build is for.
 
 use std::path::{Path, PathBuf};
@@ -14,7 +14,7 @@ fn main() {
     println!("cargo:rerun-if-changed={}", library.display());
     if let Err(why) = fits(&library) {
         eprintln!("{why}");
-        eprintln!("`rt staticlib utasiro` writes the library to target/staticlib, for x86-64. `host/library` makes one");
+        eprintln!("`rt lib` in crates/utasiro writes the library to its folder out, for x86-64. `host/library` makes one");
         eprintln!(
             "that programs of this machine can link and prints its folder: set UTASIRO_LIB_DIR to that."
         );
@@ -26,7 +26,7 @@ fn main() {
 
 fn default_folder() -> PathBuf {
     let here = env::var_os("CARGO_MANIFEST_DIR").expect("cargo names the crate's folder");
-    PathBuf::from(here).join("../../target/staticlib")
+    PathBuf::from(here).join("../../crates/utasiro/out")
 }
 
 /// Whether there is a library for the processor that this build is for.

@@ -12,7 +12,7 @@ use crate::stack::depth;
 /// The folder of the library that is linked, as host/utasiro/build.rs finds it.
 pub const LINKED: &str = match option_env!("UTASIRO_LIB_DIR") {
     Some(folder) => folder,
-    None => concat!(env!("CARGO_MANIFEST_DIR"), "/../../target/staticlib"),
+    None => concat!(env!("CARGO_MANIFEST_DIR"), "/../../crates/utasiro/out"),
 };
 
 /// The object of the library in a folder, or why there is none.
