@@ -9,7 +9,7 @@ use Rattle.rules.specs.Device.{Device, lines, stale, free}
 use Rattle.rules.specs.Placement.{targets, puts, places}
 use Rattle.rules.specs.Request.{with_table, numbered, written, trimmed}
 use Rattle.rules.specs.Reclaim.{victim, reclaimed}
-use Rattle.laws.specs.Cells.{length-tabulate, get_d_tabulate, sets_tells, replicate-at}
+use Rattle.laws.specs.Cells.{length-tabulate, get_or-tabulate, sets_tells, replicate-at}
 use Rattle.laws.specs.Device.{SoundDevice}
 use Rattle.laws.specs.Order.{length-targets, targets_open, puts-all}
 use Rattle.laws.specs.Lines.{trimmed-lines}
@@ -60,8 +60,8 @@ agrees-write k l n xs d f t s a h r =
       size = length-sets t l (cells n xs) ∙ a.size ∙ sym p.lines ∙ sym (numbered-lines k d');
       says = λ j. numbered-shows k d' f' j ∙ sets_tells hole (contents d' f') (cells n xs) t l (omega (arith, a.size))
           (λ i j q e. w.shows i j (omega arith) e
-          ∙ ap (λ (x : ℕ). cell (value x)) (get_d_tabulate n (λ i. get_or xs i 0) i 0 (omega arith))
-          ∙ sym (get_d_tabulate n (λ i. cell (value (get_or xs i 0))) i hole (omega arith)))
+          ∙ ap (λ (x : ℕ). cell (value x)) (get_or-tabulate n (λ i. get_or xs i 0) i 0 (omega arith))
+          ∙ sym (get_or-tabulate n (λ i. cell (value (get_or xs i 0))) i hole (omega arith)))
           (λ j q. w.keeps j (λ x y. q x (omega arith)) ∙ a.says j) j;
     }
 

@@ -16,7 +16,7 @@ use Rattle.rules.specs.Device.{blocks, lines, at, extents, device_of, head_of, w
 use Rattle.rules.specs.Calls.{fresh_device, from_sizes, fresh}
 use Rattle.rules.specs.declared.Refusal.{Refusal}
 use Rattle.laws.specs.Bools.{and_split}
-use Rattle.laws.specs.Cells.{length-tabulate, get_d_tabulate, replicate-at}
+use Rattle.laws.specs.Cells.{length-tabulate, get_or-tabulate, replicate-at}
 use Rattle.laws.specs.Runs.{runs_holes}
 use Rattle.laws.specs.Fresh.{fresh-fill, fresh-blocks, fresh_lines, fresh_at, fresh-sound}
 use Rattle.demands.specs.Flash.{Cell, erased, hole, contents}
@@ -51,7 +51,7 @@ module _ (s : Lent) (z : shaped s ≡ true) (e : sound s ≡ true) where
     begin-says l =
         let m = s.head.logical in
         by_cases (dec_lt l m)
-        (λ h. sym (get_d_tabulate m (reads s f) l hole h ∙ begin-reads l h))
+        (λ h. sym (get_or-tabulate m (reads s f) l hole h ∙ begin-reads l h))
         (λ h. see-hole f (at (device_of s) l) (get_or-eq_default (device_of s).table none {n = l} (omega (arith, device-lines s)))
         ∙ sym (get_or-eq_default (tabulate m (reads s f)) hole {n = l} (omega (arith, length-tabulate m (reads s f)))))
 
@@ -85,7 +85,7 @@ erased-all s = record {
 every : {A : Type 0} (n : ℕ) (x : A) (f : ℕ → A) → ((i : ℕ) → i < n → f i ≡ x) → replicate n x ≡ tabulate n f
 every n x f h =
     ext_get_or x (replicate n x) (tabulate n f) (length-replicate n x ∙ sym (length-tabulate n f))
-    (λ i k. let t : i < n = omega (arith, length-replicate n x) in replicate-at x n i ∙ sym (get_d_tabulate n f i x t ∙ h i t))
+    (λ i k. let t : i < n = omega (arith, length-replicate n x) in replicate-at x n i ∙ sym (get_or-tabulate n f i x t ∙ h i t))
 
 module _ (b n l m : ℕ) (z : sizes b n l m ≡ true) where
   is_sized : Sizes b n l m

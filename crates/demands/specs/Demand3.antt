@@ -1,4 +1,4 @@
--- Demand 3. Let a sound device have B blocks of N pages. Take an in_range_lem write of n pages, n from 1 to N, with a new request number and answer buffers
+-- Demand 3. Let a sound device have B blocks of N pages. Take an in-range write of n pages, n from 1 to N, with a new request number and answer buffers
 -- long enough. If the extents in use plus n plus 1 fit in the slots, or there's a slot for every logical page, then reclaiming until nothing is stale takes
 -- at most B-1 reclaims, after which that write is accepted. No reclaim on the way raises the count of extents, or, if the flash is erased from each block's
 -- fill on and the host copies and erases as in demand 2, changes any page's contents.

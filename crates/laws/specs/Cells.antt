@@ -31,11 +31,11 @@ unfolding tabulate
 length-tabulate zero f = refl
 length-tabulate (suc n) f = ap suc (length-tabulate n (λ i. f (suc i)))
 
-pub get_d_tabulate : {A : Type 0} (n : ℕ) (f : ℕ → A) (i : ℕ) (z : A) → i < n → get_or (tabulate n f) i z ≡ f i
+pub get_or-tabulate : {A : Type 0} (n : ℕ) (f : ℕ → A) (i : ℕ) (z : A) → i < n → get_or (tabulate n f) i z ≡ f i
 unfolding tabulate
-get_d_tabulate zero f i z h = absurd (omega arith)
-get_d_tabulate (suc n) f zero z h = refl
-get_d_tabulate (suc n) f (suc i) z h = get_d_tabulate n (λ j. f (suc j)) i z (omega arith)
+get_or-tabulate zero f i z h = absurd (omega arith)
+get_or-tabulate (suc n) f zero z h = refl
+get_or-tabulate (suc n) f (suc i) z h = get_or-tabulate n (λ j. f (suc j)) i z (omega arith)
 
 pub tabulate-same : {A : Type 0} (n : ℕ) (f g : ℕ → A) → ((i : ℕ) → i < n → f i ≡ g i) → tabulate n f ≡ tabulate n g
 unfolding tabulate

@@ -11,7 +11,7 @@ use Rattle.rules.specs.Counting.{tabulate}
 use Rattle.rules.specs.Extents.{none, extent, lookup, joinable, join, runs}
 use Rattle.rules.specs.declared.Extent.{Extent}
 use Rattle.laws.specs.Bools.{cases, and_split, and-join, never}
-use Rattle.laws.specs.Cells.{length-tabulate, get_d_tabulate, sets_low, sets_in, sets_high}
+use Rattle.laws.specs.Cells.{length-tabulate, get_or-tabulate, sets_low, sets_in, sets_high}
 use Rattle.laws.specs.Rows.{Row, Rows, rows_at, rows-gap, lookup-before, lookup_in, lookup-after, lookup-low, lookup-word, div_shift, mod_edge}
 use Rattle.laws.specs.Unique.{unique}
 
@@ -203,11 +203,11 @@ encode_sets n z a vs t es f v w h left mid right =
 pub table-words : (n hi : ℕ) (es : List Extent) → Rows n 0 none hi es → (m : ℕ) → WordLines (tabulate m (lookup es))
 table-words n hi es h m i =
     by_cases (dec_lt i m)
-    (λ a. omega (arith, get_d_tabulate m (lookup es) i none a, lookup-word n hi es 0 none i h))
+    (λ a. omega (arith, get_or-tabulate m (lookup es) i none a, lookup-word n hi es 0 none i h))
     (λ a. omega (arith, get_or-eq_default (tabulate m (lookup es)) none {n = i} (omega (arith, length-tabulate m (lookup es)))))
 
 -- the extents of the table of a sound list are that list
 pub runs-again : (n : ℕ) → 0 < n → (m : ℕ) (es : List Extent) → Rows n 0 none m es → runs n 0 (tabulate m (lookup es)) ≡ es
 runs-again n z m es h =
     sym (encode n z (tabulate m (lookup es)) es (table-words n m es h m) (rw length-tabulate h)
-    (λ l s. sym (get_d_tabulate m (lookup es) l none (omega (arith, length-tabulate m (lookup es))))))
+    (λ l s. sym (get_or-tabulate m (lookup es) l none (omega (arith, length-tabulate m (lookup es))))))

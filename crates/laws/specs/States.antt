@@ -16,7 +16,7 @@ use Rattle.rules.specs.Sound.{sound}
 use Rattle.rules.specs.Device.{Device, blocks, lines, at, fill, valid, extents, table_of, device_of, head_of, words_of}
 use Rattle.rules.specs.declared.Extent.{Extent}
 use Rattle.laws.specs.Sums.{count_same}
-use Rattle.laws.specs.Cells.{length-tabulate, get_d_tabulate, replicate-at}
+use Rattle.laws.specs.Cells.{length-tabulate, get_or-tabulate, replicate-at}
 use Rattle.laws.specs.Rows.{Rows}
 use Rattle.laws.specs.Runs.{WordLines, runs-rows, runs-lookup, runs-again}
 use Rattle.laws.specs.Slots.{slots_length, flat-length, slots-flat, flat-slots}
@@ -41,11 +41,11 @@ device-blocks s = length-tabulate s.head.blocks (fill_of s)
 
 pub device-at : (s : Lent) (l : ℕ) → l < s.head.logical → at (device_of s) l ≡ lookup (in_use s) l
 unfolding device_of table_of
-device-at s l h = get_d_tabulate s.head.logical (lookup (in_use s)) l none h
+device-at s l h = get_or-tabulate s.head.logical (lookup (in_use s)) l none h
 
 pub device-fill : (s : Lent) (b : ℕ) → b < s.head.blocks → fill (device_of s) b ≡ fill_of s b
 unfolding device_of
-device-fill s b h = get_d_tabulate s.head.blocks (fill_of s) b 0 h
+device-fill s b h = get_or-tabulate s.head.blocks (fill_of s) b 0 h
 
 -- rule 4 of the words, and of the device
 page-home : (s : Lent) → 0 < s.head.pages → (p l : ℕ) → Page s p l → Home (device_of s) l p
@@ -228,13 +228,13 @@ words-device d g =
     table : tabulate (lines d) (lookup (in_use (words_of d))) ≡ d.table
     table =
         ext_get_or none (tabulate (lines d) (lookup (in_use (words_of d)))) d.table (length-tabulate (lines d) (lookup (in_use (words_of d))))
-        (λ l t. get_d_tabulate (lines d) (lookup (in_use (words_of d))) l none (omega (arith, length-tabulate (lines d) (lookup (in_use (words_of d)))))
+        (λ l t. get_or-tabulate (lines d) (lookup (in_use (words_of d))) l none (omega (arith, length-tabulate (lines d) (lookup (in_use (words_of d)))))
         ∙ ap (λ (es : List Extent). lookup es l) (words_in-use d) ∙ extents-lookup d g.sound l)
 
     fills : tabulate (blocks d) (fill_of (words_of d)) ≡ d.fills
     fills =
         ext_get_or 0 (tabulate (blocks d) (fill_of (words_of d))) d.fills (length-tabulate (blocks d) (fill_of (words_of d)))
-        (λ b t. get_d_tabulate (blocks d) (fill_of (words_of d)) b 0 (omega (arith, length-tabulate (blocks d) (fill_of (words_of d)))) ∙ words-fill d b)
+        (λ b t. get_or-tabulate (blocks d) (fill_of (words_of d)) b 0 (omega (arith, length-tabulate (blocks d) (fill_of (words_of d)))) ∙ words-fill d b)
 
 module _ (d : Device) (g : Storable d) where
   words-shaped : Shaped (words_of d)
@@ -304,7 +304,7 @@ tabulate-same n m f g e h =
     let p = length-tabulate n f in
     let q = length-tabulate m g in
     ext_get_or 0 (tabulate n f) (tabulate m g) (p ∙ e ∙ sym q)
-    (λ i t. get_d_tabulate n f i 0 (omega arith) ∙ h i (omega arith) ∙ sym (get_d_tabulate m g i 0 (omega arith)))
+    (λ i t. get_or-tabulate n f i 0 (omega arith) ∙ h i (omega arith) ∙ sym (get_or-tabulate m g i 0 (omega arith)))
 
 device-same : (s t : Lent) → SamePages s t → device_of s ≡ device_of t
 unfolding device_of table_of

@@ -17,7 +17,7 @@ use Rattle.rules.specs.Placement.{targets, puts, pieces}
 use Rattle.rules.specs.Calls.{over}
 use Rattle.rules.specs.declared.Extent.{Extent}
 use Rattle.laws.specs.Slots.{flat-length}
-use Rattle.laws.specs.Cells.{block_le, length-tabulate, get_d_tabulate, tabulate-same}
+use Rattle.laws.specs.Cells.{block_le, length-tabulate, get_or-tabulate, tabulate-same}
 use Rattle.laws.specs.Spread.{with_piece, spread, filled, labelled, listed-none, listed-some, taken_le, taken-room}
 use Rattle.laws.specs.Order.{puts-filled, puts-labelled}
 use Rattle.laws.specs.Rises.{puts_rise}
@@ -166,10 +166,10 @@ module _ (blocks n reserve from l want : ℕ) (blk spare out : List ℕ) (q : Pl
       omega (
         arith,
         raises_rise n reserve (blocks - from) from want blk ready-size b,
-        get_d_tabulate blocks (fill_word after) b 0 h,
+        get_or-tabulate blocks (fill_word after) b 0 h,
         ap (λ (fs : List ℕ). get_or fs b 0) ready-fills,
         puts_rise l want (bare blocks n reserve blk spare) b (omega (arith, length-tabulate blocks (fill_word blk))),
-        get_d_tabulate blocks (fill_word blk) b 0 h,
+        get_or-tabulate blocks (fill_word blk) b 0 h,
       )
 
   ready-blocks : length (bare blocks n reserve blk spare).fills ≡ blocks

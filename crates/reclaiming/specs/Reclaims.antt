@@ -17,7 +17,7 @@ use Rattle.rules.specs.Reclaim.{sources, goes, moved, reclaimed_at}
 use Rattle.rules.specs.declared.Extent.{Extent}
 use Rattle.laws.specs.Bools.{cases, same_test}
 use Rattle.laws.specs.Sums.{count_same}
-use Rattle.laws.specs.Cells.{block_le, swept, map_same, length-tabulate, get_d_tabulate}
+use Rattle.laws.specs.Cells.{block_le, swept, map_same, length-tabulate, get_or-tabulate}
 use Rattle.laws.specs.Rows.{Rows, lookup-before, lookup_in, lookup-after}
 use Rattle.laws.specs.Unique.{extent_path}
 use Rattle.laws.specs.Runs.{runs-rows, runs-lookup}
@@ -72,7 +72,7 @@ line-covered (x ∷ es) l n v o m e =
 tabulate-same : (fs : List ℕ) → tabulate (length fs) (λ i. slice_index fs i) ≡ fs
 tabulate-same fs =
     ext_get_or 0 (tabulate (length fs) (λ i. slice_index fs i)) fs (length-tabulate (length fs) (λ i. slice_index fs i))
-    (λ i h. get_d_tabulate (length fs) (λ j. slice_index fs j) i 0 (omega (arith, length-tabulate (length fs) (λ j. slice_index fs j))))
+    (λ i h. get_or-tabulate (length fs) (λ j. slice_index fs j) i 0 (omega (arith, length-tabulate (length fs) (λ j. slice_index fs j))))
 
 module _ (d : Device) (s : SoundDevice d) where
   pub block_room : (b : ℕ) → b < blocks d → b * d.pages + d.pages ≤ none

@@ -33,7 +33,7 @@ fn copy_labels(spare: &mut [u32], out: &[u32], k: usize, to: usize)
     }
 }
 
-// The labels go along with the copies_into, and the victim's are erased.
+// The labels go along with the copies, and the victim's are erased.
 pub fn move_labels(spare: &mut [u32], out: &[u32], k: usize, n: u32, r: u32, v: u32)
     requires { Copied n r v out.now k (length spare.old) }
     ensures { spare.new ≡ swept none n r v (take k out.now) spare.old }

@@ -14,7 +14,7 @@ use Rattle.rules.specs.Extents.{none}
 use Rattle.rules.specs.Device.{Device, lines, free}
 use Rattle.rules.specs.Placement.{pieces}
 use Rattle.rules.specs.declared.Extent.{Extent}
-use Rattle.laws.specs.Cells.{length-tabulate, get_d_tabulate}
+use Rattle.laws.specs.Cells.{length-tabulate, get_or-tabulate}
 use Rattle.laws.specs.Bools.{and_split}
 use Rattle.laws.specs.Picks.{first_le, first_passes, first-is, first-none}
 use Rattle.laws.specs.Device.{SoundDevice}
@@ -50,7 +50,7 @@ module _ (n reserve blocks : ℕ) (blk : List ℕ) where
   room_in b = room_at n reserve b (get_or (fills_of blocks blk) b 0)
 
   room-same : (b : ℕ) → b < blocks → room_in b ≡ room_of b
-  room-same b h = ap (room_at n reserve b) (get_d_tabulate blocks (fill_word blk) b 0 h)
+  room-same b h = ap (room_at n reserve b) (get_or-tabulate blocks (fill_word blk) b 0 h)
 
   abbrev test : ℕ → ℕ → Bool
   test m b = ltb 0 m && leb m (room_in b)

@@ -2,7 +2,7 @@
 use Rattle.std.specs.Prelude.{ℕ, zero, suc, ◌+◌, ◌-◌, ◌<◌, ◌≤◌, List, [], ◌∷◌, ◌≡◌, refl, length, get_or, set, take, drop, replicate}
 use Rattle.std.proofs.Common.{sym, ap, ◌∙◌, arith, add-one, length-drop, ext_get_or, get_or-drop}
 use Rattle.rules.specs.Counting.{tabulate}
-use Rattle.laws.specs.Cells.{length-tabulate, get_d_tabulate}
+use Rattle.laws.specs.Cells.{length-tabulate, get_or-tabulate}
 
 unfoldable pub stored : (ℕ → ℕ) → ℕ → List ℕ → List ℕ
 stored f zero xs = xs
@@ -46,7 +46,7 @@ pub put-end : (k : ℕ) (new xs ys : List ℕ) → k ≡ length xs → length xs
 put-end k new xs ys h s e =
     let f : ℕ → ℕ = λ i. get_or new i 0 in
     let n = length-tabulate (length xs) f in
-    stored-end f k xs ys h e ∙ ext_get_or 0 (tabulate (length xs) f) new (n ∙ s) (λ i p. get_d_tabulate (length xs) f i 0 (omega arith))
+    stored-end f k xs ys h e ∙ ext_get_or 0 (tabulate (length xs) f) new (n ∙ s) (λ i p. get_or-tabulate (length xs) f i 0 (omega arith))
 
 -- ---- words moved down
 
@@ -71,7 +71,7 @@ down_all : (xs : List ℕ) (by : ℕ) → by ≤ length xs → tabulate (length 
 down_all xs by h =
     ext_get_or 0 (tabulate (length xs - by) (down_by by xs)) (drop by xs)
     (length-tabulate (length xs - by) (down_by by xs) ∙ sym (length-drop by xs))
-    (λ i p. get_d_tabulate (length xs - by) (down_by by xs) i 0 (omega (arith, length-tabulate (length xs - by) (down_by by xs))) ∙ sym (get_or-drop by xs i 0))
+    (λ i p. get_or-tabulate (length xs - by) (down_by by xs) i 0 (omega (arith, length-tabulate (length xs - by) (down_by by xs))) ∙ sym (get_or-drop by xs i 0))
 
 pub down_start : (by k : ℕ) (xs : List ℕ) → k ≡ 0 → xs ≡ stored (down_by by xs) k xs
 unfolding stored

@@ -1,5 +1,9 @@
+use Rattle.std.proofs.Common.{sym}
 use Rattle.records.specs.ReadLaws.{too_many_lem}
 use Rattle.records.proofs.read_words.Goals as goal
 
 pub returns-then-k-gt8192 : goal.returns-then-k-gt8192
 returns-then-k-gt8192 c ext f = too_many_lem _ ext _ _ _ _ _ _ _ f c.if-k-gt8192.true
+
+pub returns : goal.returns
+returns c ext f = rw (sym (f.first c.if-k-gt8192.false)) c.read.ensures
