@@ -8,11 +8,11 @@
  * Linking
  *   libutasiro.a, which `rt lib` in crates/utasiro writes to its folder out, for x86-64
  *   Linux (processors of level x86-64-v2 and above), System V calling convention.
- *   `tools/install PREFIX` puts it, this header and utasiro.pc where `pkg-config --cflags --libs utasiro` finds them. It needs memset; the
- *   compiler may have a later version need memcpy and memmove too. It needs nothing else:
- *   no other library, no allocator, no start-up code. It keeps nothing between calls, so
- *   calls on different devices may run at the same time; those on one device the caller
- *   must keep apart.
+ *   `tools/install PREFIX` puts it, this header and utasiro.pc where `pkg-config --cflags
+ *   --libs utasiro` finds them. It needs memset; the compiler may have a later version need
+ *   memcpy and memmove too. It needs nothing else: no other library, no allocator, no
+ *   start-up code. It keeps nothing between calls, so calls on different devices may run at
+ *   the same time; those on one device the caller must keep apart.
  *   Stack: 8 KB do for any call but utasiro_read_records, which takes 98,304 bytes more.
  *
  * What is lent
