@@ -1,4 +1,4 @@
-use Rattle.std.proofs.Common.{sym}
+use Rattle.std.proofs.Common.{sym, arith}
 use Rattle.records.specs.ReadLaws.{too_many_lem}
 use Rattle.records.proofs.read_words.Goals as goal
 
@@ -6,4 +6,4 @@ pub returns-then-k-gt8192 : goal.returns-then-k-gt8192
 returns-then-k-gt8192 c ext f = too_many_lem _ ext _ _ _ _ _ _ _ f c.if-k-gt8192.true
 
 pub returns : goal.returns
-returns c ext f = rw (sym (f.first c.if-k-gt8192.false)) c.read.ensures
+returns c ext f = rw (sym (f.first (omega arith))) c.read.ensures
