@@ -1,13 +1,13 @@
 #![tactic(auto)]
 
-// What C and Rust are answered: a struct by value, made of what the layer answers. It is promised to say the same.
+// What C and Rust are answered: a struct by value, made of what the layer answers a call on head h. It is promised to say the same.
 ghost use Rattle.answers.specs.Said.{said_done, said_listed, said_counts};
 
-use rules::{Counted, Done, Head, Listed};
+use rules::{Counted, Head, Listed, Refusal};
 
 // What fresh, write, trim, read and reclaim answer: the refusal's number, or 0; the count, 0 where there is none; the head.
 #[repr(C)]
-#[derive(Clone, Copy)]
+#[derive(Clone, Copy, Debug, PartialEq, Eq)]
 pub struct Outcome {
     pub refusal: u32,
     pub count: u32,
@@ -16,7 +16,7 @@ pub struct Outcome {
 
 // What report answers.
 #[repr(C)]
-#[derive(Clone, Copy)]
+#[derive(Clone, Copy, Debug, PartialEq, Eq)]
 pub struct Counts {
     pub refusal: u32,
     pub free: u32,
@@ -25,52 +25,54 @@ pub struct Counts {
     pub head: Head,
 }
 
-pub fn of_done(d: Done) -> Outcome
-    ensures { said_done result d }
+pub fn of_done(h: Head, d: Result<Head, Refusal>) -> Outcome
+    ensures { said_done result h d }
 {
     match d {
-        Done::Accepted(h) => Outcome {
+        Ok(head) => Outcome {
             refusal: 0,
             count: 0,
-            head: h,
+            head,
         },
-        Done::Refused(r, h) => Outcome {
-            refusal: words::number_of(r),
-            count: 0,
-            head: h,
-        },
+        Err(r) => refused(r, h),
     }
 }
 
-pub fn of_listed(d: Listed) -> Outcome
-    ensures { said_listed result d }
+pub fn of_listed(h: Head, d: Result<Listed, Refusal>) -> Outcome
+    ensures { said_listed result h d }
 {
     match d {
-        Listed::Accepted(k, h) => Outcome {
+        Ok(Listed { count, head }) => Outcome {
             refusal: 0,
-            count: k,
-            head: h,
+            count,
+            head,
         },
-        Listed::Refused(r, h) => Outcome {
-            refusal: words::number_of(r),
-            count: 0,
-            head: h,
-        },
+        Err(r) => refused(r, h),
     }
 }
 
-pub fn of_counted(d: Counted) -> Counts
-    ensures { said_counts result d }
+fn refused(r: Refusal, head: Head) -> Outcome
+    ensures { said_listed result head (Err r) }
+{
+    Outcome {
+        refusal: words::number_of(r),
+        count: 0,
+        head,
+    }
+}
+
+pub fn of_counted(h: Head, d: Result<Counted, Refusal>) -> Counts
+    ensures { said_counts result h d }
 {
     match d {
-        Counted::Accepted(f, l, s, h) => Counts {
+        Ok(Counted { free, live, stale }) => Counts {
             refusal: 0,
-            free: f,
-            live: l,
-            stale: s,
+            free,
+            live,
+            stale,
             head: h,
         },
-        Counted::Refused(r, h) => Counts {
+        Err(r) => Counts {
             refusal: words::number_of(r),
             free: 0,
             live: 0,

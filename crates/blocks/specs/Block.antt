@@ -1,6 +1,6 @@
 -- One block after the other: rule 3 for its fill and spare entries; and rule 5 against a tally of its mapped pages.
 use Rattle.std.specs.Prelude.{ℕ, ◌+◌, ◌-◌, ◌*◌, ◌≤◌, ◌<◌, Bool, true, false, not, ◌≡◌, refl, List, ltb, eqb, length, get_or, take, drop}
-use Rattle.std.proofs.Common.{sym, ap, ◌∙◌, arith, below_more, eqb-true, eq-eqb}
+use Rattle.std.proofs.Common.{sym, ap, ◌∙◌, arith, eqb-true, eq-eqb}
 use Rattle.std.specs.Int.Bits.{bit_or, bit_xor}
 use Rattle.rules.specs.Counting.{all}
 use Rattle.rules.specs.Blocks.{stride, fill_word, valid_word}
@@ -76,21 +76,6 @@ module _ {blk spare : List ℕ} {blocks n top b : ℕ} (h : Framed blk spare blo
     labels = λ o t. omega (arith, g.labels o (omega arith), part-word own o none (omega (arith, own.long, g.full)));
     blank = λ o t u. sym (part-word own o none u) ∙ g.blank o (omega arith) (omega (arith, own.long));
   }
-
--- the loop: the blocks before b are right
-pub record Passed (blk spare : List ℕ) (blocks n top b : ℕ) : Type 0 where
-  pub within : b ≤ blocks
-  pub each : (k : ℕ) → k < b → Block blk spare n top k
-
-module _ {blk spare : List ℕ} {blocks n top : ℕ} where
-  pub passed_start : Passed blk spare blocks n top 0
-  passed_start = record { within = omega arith; each = λ k s. absurd (omega arith) }
-
-  pub passed-step : (b : ℕ) → Passed blk spare blocks n top b → b < blocks → Block blk spare n top b → Passed blk spare blocks n top (b + 1)
-  passed-step b p s g = record { within = omega arith; each = below_more _ _ p.each g }
-
-  pub passed-end : (b : ℕ) → Passed blk spare blocks n top b → blocks ≤ b → (k : ℕ) → k < blocks → Block blk spare n top k
-  passed-end b p s k t = p.each k (omega arith)
 
 -- ---- rule 5
 

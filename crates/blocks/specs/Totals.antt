@@ -8,12 +8,12 @@ use Rattle.rules.specs.Counting.{sum}
 use Rattle.rules.specs.Blocks.{stride, fill_word, valid_word}
 use Rattle.rules.specs.Lent.{Lent, fill_of, valid_of}
 use Rattle.rules.specs.Device.{blocks, room, free, live, stale, stale_in, valid, device_of}
+use Rattle.rules.specs.declared.Counted.{Counted}
 use Rattle.rules.specs.declared.Head.{Head}
 use Rattle.laws.specs.Sums.{sum_same}
 use Rattle.laws.specs.Sound.{Shaped, SoundState}
 use Rattle.laws.specs.Balance.{live-valid, valid-stale}
 use Rattle.laws.specs.States.{device-blocks, device-fill, state-storable, valid-in_use}
-use Rattle.blocks.specs.declared.Totals.{Totals}
 
 -- what a sound state gives of its block records
 pub record Filled (h : Head) (blk : List ℕ) : Type 0 where
@@ -33,7 +33,7 @@ room_words h blk b = room_left h b (fill_word blk b)
 abbrev pub stale_at : List ℕ → ℕ → ℕ
 stale_at blk b = fill_word blk b - valid_word blk b
 
-pub record Totalled (h : Head) (blk : List ℕ) (t : Totals) : Type 0 where
+pub record Totalled (h : Head) (blk : List ℕ) (t : Counted) : Type 0 where
   pub free : t.free ≡ sum h.blocks (room_words h blk)
   pub live : t.live ≡ sum h.blocks (valid_word blk)
   pub stale : t.stale ≡ sum h.blocks (stale_at blk)
@@ -50,7 +50,6 @@ room-few h b f = by_cases (ℕ_discrete b h.reserve) (λ e. omega (arith, room-n
 
 -- the loop: the sums over the blocks before b
 pub record Summed (h : Head) (blk : List ℕ) (b free live stale : ℕ) : Type 0 where
-  pub within : b ≤ h.blocks
   pub free-is : free ≡ sum b (room_words h blk)
   pub live-is : live ≡ sum b (valid_word blk)
   pub stale-is : stale ≡ sum b (stale_at blk)
@@ -66,7 +65,6 @@ module _ (h : Head) (blk : List ℕ) where
   pub summed_start : Summed h blk 0 0 0 0
   unfolding sum
   summed_start = record {
-    within = omega arith;
     free-is = refl;
     live-is = refl;
     stale-is = refl;
@@ -78,7 +76,6 @@ module _ (h : Head) (blk : List ℕ) where
   pub summed_step : (b free live stale f v room : ℕ) → Filled h blk → b < h.blocks → Summed h blk b free live stale
       → f ≡ fill_word blk b → v ≡ valid_word blk b → room ≡ room_left h b f → Summed h blk (b + 1) (free + room) (live + v) (stale + (f - v))
   summed_step b free live stale f v room g s p ef ev er = record {
-    within = omega arith;
     free-is = omega (arith, p.free-is, er, ap (room_left h b) ef, sum-next b (room_words h blk));
     live-is = omega (arith, p.live-is, sum-next b (valid_word blk));
     stale-is = omega (arith, p.stale-is, sum-next b (stale_at blk));
@@ -86,15 +83,6 @@ module _ (h : Head) (blk : List ℕ) where
     live-high = omega (arith, p.live-high, g.full b s, g.valid b s, g.pages-high);
     stale-high = omega (arith, p.stale-high, g.full b s, g.valid b s, g.pages-high);
   }
-
-  pub summed_end : (b free live stale : ℕ) → Summed h blk b free live stale → h.blocks ≤ b → Totalled h blk (record { free = free; live = live; stale = stale })
-  summed_end b free live stale p s =
-      let e : b ≡ h.blocks = omega arith in
-      record {
-        free = p.free-is ∙ ap (λ (k : ℕ). sum k (room_words h blk)) e;
-        live = p.live-is ∙ ap (λ (k : ℕ). sum k (valid_word blk)) e;
-        stale = p.stale-is ∙ ap (λ (k : ℕ). sum k (stale_at blk)) e;
-      }
 
 -- ---- of a sound state: they are the counts of its device
 

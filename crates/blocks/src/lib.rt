@@ -8,7 +8,7 @@ ghost use Rattle.words.specs.Says.{Says};
 ghost use Rattle.blocks.specs.Block.{Labels, Framed, Block};
 ghost use Rattle.blocks.specs.Totals.{Filled, Totalled, room_left};
 
-use rules::Head;
+use rules::{Counted, Head};
 
 // Rule 3 for one block: its fill, and the spare entries of its pages.
 fn block_ok(fill: u32, part: &[u32], top: u32) -> bool
@@ -16,13 +16,7 @@ fn block_ok(fill: u32, part: &[u32], top: u32) -> bool
     ensures { Says result (Labels fill top part.now) }
 {
     let f = fill as usize;
-    if f > part.len() {
-        return false;
-    }
-    if !words::all_below(&part[..f], top) {
-        return false;
-    }
-    words::all_are(&part[f..], 4294967295)
+    f <= part.len() && words::all_below(&part[..f], top) && words::all_are(&part[f..], u32::MAX)
 }
 
 // Rule 3 for every block.
@@ -30,14 +24,12 @@ pub fn labels_ok(blk: &[u32], spare: &[u32], blocks: usize, n: usize, top: u32) 
     requires { Framed blk.now spare.now blocks n top }
     ensures { Says result ((b : ℕ) → b < blocks → Block blk.now spare.now n top b) }
 {
-    let mut b: usize = 0;
-    while b < blocks {
+    for b in 0..blocks {
         let from = b * n;
         let to = from + n;
         if !block_ok(words::fill_of(blk, b), &spare[from..to], top) {
             return false;
         }
-        b += 1;
     }
     true
 }
@@ -47,20 +39,11 @@ pub fn valid_ok(blk: &[u32], tally: &[u32], blocks: usize) -> bool
     requires { (length blk.now ≡ stride * blocks) × (blocks ≤ length tally.now) }
     ensures { Says result ((b : ℕ) → b < blocks → valid_word blk.now b ≡ get_or tally.now b 0) }
 {
-    let mut off: u32 = 0;
-    let mut b: usize = 0;
-    while b < blocks {
-        off = off | (words::valid_of(blk, b) ^ tally[b]);
-        b += 1;
+    let mut off = 0;
+    for b in 0..blocks {
+        off |= words::valid_of(blk, b) ^ tally[b];
     }
     off == 0
-}
-
-#[derive(Clone, Copy)]
-pub struct Totals {
-    pub free: u32,
-    pub live: u32,
-    pub stale: u32,
 }
 
 // The pages that block b has left for a write, its fill being f: none in the reserve.
@@ -69,31 +52,25 @@ fn room_of(h: Head, b: usize, f: u32) -> u32
     ensures { result ≡ room_left h b f }
 {
     if b == h.reserve as usize {
-        return 0;
+        0
+    } else {
+        h.pages - f
     }
-    h.pages - f
 }
 
 // Free, live and stale, from the block records of a sound state.
-pub fn totals_of(h: Head, blk: &[u32]) -> Totals
+pub fn totals_of(h: Head, blk: &[u32]) -> Counted
     requires { Filled h blk.now }
     ensures { Totalled h blk.now result }
 {
-    let mut free: u32 = 0;
-    let mut live: u32 = 0;
-    let mut stale: u32 = 0;
-    let mut b: usize = 0;
-    while b < h.blocks as usize {
-        let f = words::fill_of(blk, b);
-        let v = words::valid_of(blk, b);
-        free += room_of(h, b, f);
-        live += v;
-        stale += f - v;
-        b += 1;
+    let mut free = 0;
+    let mut live = 0;
+    let mut stale = 0;
+    for b in 0..h.blocks as usize {
+        let r = words::block_at(blk, b);
+        free += room_of(h, b, r.fill);
+        live += r.valid;
+        stale += r.fill - r.valid;
     }
-    Totals {
-        free: free,
-        live: live,
-        stale: stale,
-    }
+    Counted { free, live, stale }
 }

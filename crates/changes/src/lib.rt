@@ -2,9 +2,9 @@
 
 // What a trim and a write change once nothing refuses them. That nothing does is required here (`Ready`), with what was found on the way to it; the answer
 // and the words are promised as the rules give them.
-ghost use Rattle.std.specs.Prelude.{◌≡◌, [], ◌+◌};
+ghost use Rattle.std.specs.Prelude.{◌≡◌, [], ◌∷◌, ◌+◌};
 ghost use Rattle.rules.specs.Lent.{lent, in_use};
-ghost use Rattle.rules.specs.Answers.{outcome, done, listed};
+ghost use Rattle.rules.specs.Answers.{said, outcome};
 ghost use Rattle.rules.specs.Calls.{Call, call};
 ghost use Rattle.map.specs.Around.{Beside};
 ghost use Rattle.refusals.specs.Accepts.{Ready};
@@ -12,7 +12,7 @@ ghost use Rattle.changes.specs.Trims.{Cut, Opened};
 ghost use Rattle.writable.specs.Meeting.{Meets};
 
 use map::{Gap, Sides};
-use rules::{Done, Head, Listed};
+use rules::{Head, Listed};
 use writable::Meeting;
 
 // The range, whose sides are given, struck off the valid counts and cut out of the extents, but for a gap among them: the first part of a trim and of a write.
@@ -43,18 +43,20 @@ pub fn make_holes(
     number: u64,
     l: u32,
     n: u32,
-) -> Done
+) -> Head
     requires { Ready (Call.trim number l n) (lent h ext.old blk.old spare.now) × Beside l (l + n) (in_use (lent h ext.old blk.old spare.now)) sides }
-    ensures { outcome (done result) ext.new blk.new spare.now []
+    ensures { outcome (said 0 [] result) ext.new blk.new spare.now []
         ≡ call (Call.trim number l n) (lent h ext.old blk.old spare.now) }
 {
     let gap = open_range(h, ext, blk, spare, sides, l, n);
     map::close(ext, gap.used, gap.from, gap.to);
     let used = gap.used - (gap.to - gap.from);
-    let mut after = h;
-    after.used = used as u32;
-    after.last = words::kept(number);
-    Done::Accepted(after)
+    let last = words::kept(number);
+    Head {
+        used: used as u32,
+        last,
+        ..h
+    }
 }
 
 // A write that nothing refuses and that meets the extents so: the range is cut out, the pages are placed, and the pieces are put into the gap.
@@ -70,15 +72,16 @@ pub fn place_pages(
     out: &mut [u32],
 ) -> Listed
     requires { Ready (Call.write number l n out.old) (lent h ext.old blk.old spare.old) × Meets l n (lent h ext.old blk.old spare.old) m }
-    ensures { outcome (listed result) ext.new blk.new spare.new out.new
+    ensures { outcome (said 0 (result.count ∷ []) result.head) ext.new blk.new spare.new out.new
         ≡ call (Call.write number l n out.old) (lent h ext.old blk.old spare.old) }
 {
-    let sides = m.sides;
-    let gap = open_range(h, ext, blk, spare, sides, l, n);
+    let gap = open_range(h, ext, blk, spare, m.sides, l, n);
     let k = placing::place(blk, spare, out, h.blocks, h.pages, h.reserve, m.from, l, n);
     let used = putting::put_pieces(ext, gap, m.joined, out, k as usize);
-    let mut left = h;
-    left.used = used as u32;
-    left.last = words::kept(number);
-    Listed::Accepted(k, left)
+    let head = Head {
+        used: used as u32,
+        last: words::kept(number),
+        ..h
+    };
+    Listed { count: k, head }
 }

@@ -1,5 +1,6 @@
 -- Which pages of a block the extents hold.
-use Rattle.std.specs.Prelude.{◌≡◌, ℕ, ◌+◌, ◌-◌, ◌*◌, ◌/◌, ◌%◌, ◌<◌, ◌≤◌, Bool, true, false, ◌&&◌, ◌||◌, List, [], ◌∷◌, ◌++◌, ◌≢◌, nat_le, nat_lt, refl}
+use Rattle.std.specs.Prelude.{◌≡◌, ℕ, ◌+◌, ◌-◌, ◌*◌, ◌/◌, ◌%◌, ◌<◌, ◌≤◌, Bool, true, false, ◌&&◌, ◌||◌, List, [], ◌∷◌, ◌++◌, ◌≢◌, nat_le, nat_lt}
+use Rattle.std.proofs.Math.Bool.{or-false}
 use Rattle.std.proofs.Common.{sym, ap, ◌∙◌, arith}
 use Rattle.std.proofs.Math.Logic.{by_cases}
 use Rattle.std.proofs.Math.Decide.{dec_lt}
@@ -51,9 +52,5 @@ holds-block n v o e h s f =
 -- one extent more, at the end
 pub covered_more : (es : List Extent) (e : Extent) (n v o : ℕ) → covered (es ++ e ∷ []) n v o ≡ (covered es n v o || has_page e (v * n + o))
 unfolding covered
-covered_more [] e n v o = or_none (has_page e (v * n + o))
-  where
-    or_none : (b : Bool) → (b || false) ≡ b
-    or_none true = refl
-    or_none false = refl
+covered_more [] e n v o = or-false (has_page e (v * n + o))
 covered_more (x ∷ es) e n v o = cases (has_page x (v * n + o)) (λ t. rw t) (λ t. rw t (covered_more es e n v o))

@@ -1,11 +1,8 @@
 -- Slots that a reclaim passes over: those that do not lie in its victim.
 use Rattle.std.specs.Prelude.{◌≡◌, ℕ, ◌+◌, ◌-◌, ◌*◌, ◌/◌, ◌<◌, ◌≤◌, List, length, take, drop, ◌≢◌, slice_index}
 use Rattle.std.proofs.Common.{ap, ◌∙◌, arith}
-use Rattle.std.proofs.Math.Logic.{by_cases}
-use Rattle.std.proofs.Math.Decide.{dec_lt}
 use Rattle.rules.specs.Extents.{slot}
 use Rattle.words.specs.Parts.{part_at}
-use Rattle.choosing.specs.Away.{Away}
 
 -- the slots from i on, k of them, lie in other blocks than v
 abbrev pub Elsewhere : List ℕ → ℕ → ℕ → ℕ → ℕ → Type 0
@@ -14,12 +11,6 @@ Elsewhere ws i k n v = (j : ℕ) → j < k → (slot ws (i + j)).physical / n �
 -- k slots are tested, of which none is nearer to block v than `least`
 abbrev pub Tested : List ℕ → ℕ → ℕ → ℕ → ℕ → Type 0
 Tested ws n v least k = n ≤ least → Elsewhere ws 0 k n v
-
-pub tested-more : (ws : List ℕ) (n v least less k o : ℕ) → less ≤ least → less ≤ o → Away n v (slot ws k).physical o → Tested ws n v least k → Tested ws n v less (k + 1)
-tested-more ws n v least less k o p q a t h j s g =
-    by_cases (dec_lt j k)
-    (λ b. t (omega arith) j b g)
-    (λ b. let last : k ≡ 0 + j = omega arith in a.other (omega arith) (ap (λ (i : ℕ). (slot ws i).physical / n) last ∙ g))
 
 -- sixteen slots of a part
 pub part-elsewhere : (ws : List ℕ) (i r n v : ℕ) → r ≤ 16 → 3 * i + 48 ≤ length ws → Elsewhere (take (3 * i + 48 - 3 * i) (drop (3 * i) ws)) 0 r n v → Elsewhere ws i r n v

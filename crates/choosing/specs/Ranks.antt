@@ -1,7 +1,7 @@
 -- The rank of an offset: how many live offsets of the victim lie before it. Marks of one word an offset, and the sums of the marks before each.
 use Rattle.std.specs.Prelude.{◌≡◌, ℕ, zero, suc, ◌+◌, ◌-◌, ◌*◌, ◌/◌, ◌%◌, ◌<◌, ◌≤◌}
 use Rattle.std.specs.Prelude.{Bool, true, false, cond, ◌||◌, List, [], ◌∷◌, length, set, replicate, ◌==◌, ◌≢◌, nat_lt, slice_index, slice_set, refl}
-use Rattle.std.proofs.Math.Bool.{or-false}
+use Rattle.std.proofs.Math.Bool.{or-false, or-true}
 use Rattle.std.proofs.Common.{sym, ◌∙◌, subst, arith, div-add-mod', add-one, eq-eqb, ne_eqb, lt-ltb, le-ltb}
 use Rattle.std.proofs.Math.Path.{ap}
 use Rattle.std.proofs.Math.Logic.{by_cases}
@@ -79,15 +79,11 @@ module _ (e : Extent) (n v : ℕ) (ms : List ℕ) where
       (λ a. by_cases (dec_lt o (p % n + e.count))
       (λ t. sets_in 0 (ones e.count) ms (p % n) o (o - p % n) (omega arith) (omega arith) (omega arith)
       ∙ get_or-replicate e.count (o - p % n) 1 0 (omega arith)
-      ∙ ap one (sym (or_held b) ∙ ap (λ (c : Bool). b || c) (sym (holds-true e (v * n + o) (omega arith) (omega arith)))))
+      ∙ ap one (sym (or-true b) ∙ ap (λ (c : Bool). b || c) (sym (holds-true e (v * n + o) (omega arith) (omega arith)))))
       (λ t. sets_other 0 (ones e.count) ms (p % n) o (λ x y. omega arith) ∙ eq
       ∙ ap one (sym (or-false b) ∙ ap (λ (c : Bool). b || c) (sym (holds-high e (v * n + o) (omega arith)))))))
       (λ else. ap (λ (xs : List ℕ). slice_index xs o) (marked_else else) ∙ eq
       ∙ ap one (sym (or-false b) ∙ ap (λ (c : Bool). b || c) (sym (holds-block n v o e h s else))))
-    where
-      or_held : (b : Bool) → (b || true) ≡ true
-      or_held true = refl
-      or_held false = refl
 
 -- what the marks say after u slots
 abbrev pub Marks : List ℕ → ℕ → ℕ → ℕ → List ℕ → Type 0

@@ -21,7 +21,8 @@ pub fn stale_of(blk: &[u32], b: usize) -> u32
     requires { (HasBlock blk.now b) × (valid_word blk.now b ≤ fill_word blk.now b) }
     ensures { result ≡ stale_word blk.now b }
 {
-    words::fill_of(blk, b) - words::valid_of(blk, b)
+    let r = words::block_at(blk, b);
+    r.fill - r.valid
 }
 
 // The block with most stale pages, the lowest of these.
@@ -31,14 +32,12 @@ pub fn victim_of(blk: &[u32], blocks: u32) -> u32
 {
     let mut v: u32 = 0;
     let mut most: u32 = 0;
-    let mut b: u32 = 0;
-    while b < blocks {
+    for b in 0..blocks {
         let stale = stale_of(blk, b as usize);
         if most < stale {
             v = b;
             most = stale;
         }
-        b += 1;
     }
     v
 }
@@ -49,14 +48,13 @@ fn mark_slot(marks: &mut [u32], ext: &[u32], i: usize, n: u32, v: u32)
     requires i_bound { (slot ext.now i).physical % n + (slot ext.now i).count ≤ n }
     ensures { marks.new ≡ marked_in (slot ext.now i) n v marks.old }
 {
-    let at = 3 * i;
-    let o = std::num::wrapping_sub_u32(ext[at + 1], v * n);
+    let e = words::slot_at(ext, i);
+    let o = e.physical.wrapping_sub(v * n);
     if o >= n {
         return;
     }
     let from = o as usize;
-    let c = ext[at + 2] as usize;
-    words::fill_with(&mut marks[from..from + c], 1);
+    marks[from..from + (e.count as usize)].fill(1);
 }
 
 // Of the W slots in these words W where none lies in block v, or 0. The least of their differences tells, without an exit: they are taken in vectors.
@@ -64,15 +62,9 @@ fn free_of(ws: &[u32], n: u32, v: u32) -> usize
     requires { (48 ≤ length ws.now) × (1 ≤ n) × (v * n + n ≤ none) }
     ensures { (result ≤ 16) × Elsewhere ws.now 0 result n v }
 {
-    let mut least: u32 = 4294967295;
-    let mut k: usize = 0;
-    while k < W {
-        let at = 3 * k;
-        let o = std::num::wrapping_sub_u32(ws[at + 1], v * n);
-        if o < least {
-            least = o;
-        }
-        k += 1;
+    let mut least = u32::MAX;
+    for k in 0..W {
+        least = least.min(ws[3 * k + 1].wrapping_sub(v * n));
     }
     if least < n {
         return 0;
@@ -85,17 +77,14 @@ pub fn passed_over(ext: &[u32], used: usize, i: usize, n: u32, v: u32) -> usize
     requires { (3 * used ≤ length ext.now) × (i ≤ used) × (1 ≤ n) × (v * n + n ≤ none) }
     ensures { (i + result ≤ used) × Elsewhere ext.now i result n v }
 {
-    if i % W > 0 {
-        return 0;
-    }
-    if used < i + W {
+    if i % W > 0 || used < i + W {
         return 0;
     }
     let at = 3 * i;
     free_of(&ext[at..at + 3 * W], n, v)
 }
 
-// Ones at the offsets of the mapped pages of block v.
+// Ones at the offsets of the mapped pages of block v. No `for`: i goes on by one slot, or by as many as are passed over.
 fn mark_slots(marks: &mut [u32], ext: &[u32], used: usize, n: u32, v: u32)
     requires used_in_bounds { (3 * used ≤ length ext.now) × (1 ≤ n) × (n ≤ length marks.old) × (v * n + n ≤ none) }
     requires by_index { (i : ℕ) → i < used → (slot ext.now i).physical % n + (slot ext.now i).count ≤ n }
@@ -120,12 +109,10 @@ fn add_up(marks: &mut [u32], n: usize)
     ensures { marks.new ≡ stored (sums marks.old) (n + 1) marks.old }
 {
     let mut k: u32 = 0;
-    let mut o: usize = 0;
-    while o < n {
+    for o in 0..n {
         let m = marks[o];
         marks[o] = k;
         k += m;
-        o += 1;
     }
     marks[n] = k;
 }
@@ -147,13 +134,11 @@ pub fn list_sources(ranks: &[u32], n: u32, v: u32, out: &mut [u32])
     requires { Ranks n (rises ranks.now) ranks.now × (count n (rises ranks.now) ≤ length out.old) × (v * n + n ≤ none) }
     ensures { out.new ≡ over (live_pages n v (rises ranks.now)) out.old }
 {
-    let mut o: u32 = 0;
-    while o < n {
+    for o in 0..n {
         let at = o as usize;
         let rank = ranks[at];
         if rank < ranks[at + 1] {
             out[rank as usize] = v * n + o;
         }
-        o += 1;
     }
 }

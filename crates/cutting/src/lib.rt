@@ -8,11 +8,34 @@ ghost use Rattle.laws.specs.Cut.{cut};
 ghost use Rattle.map.specs.Sound.{Piece};
 ghost use Rattle.map.specs.Around.{Beside};
 ghost use Rattle.map.specs.Padded.{padded, Holds, Gapped};
-ghost use Rattle.map.specs.Clip.{clip_right, clip_left, split_at};
+ghost use Rattle.map.specs.Clip.{up_to, on_from, clip_right, clip_left, split_at};
 ghost use Rattle.cutting.specs.Cutting.{Cuttable};
 
 use map::{Gap, Sides};
 use rules::Extent;
+
+// An extent's part below l.
+fn up_to(x: Extent, l: u32) -> Extent
+    requires { x.logical < l }
+    ensures { result ≡ up_to l x }
+{
+    let count = x.count.min(l - x.logical);
+    Extent { count, ..x }
+}
+
+// An extent's part from e on.
+fn on_from(x: Extent, e: u32) -> Extent
+    requires { Piece x × (e < end x) }
+    ensures { result ≡ on_from e x }
+{
+    let start = x.logical.max(e);
+    let passed = start - x.logical;
+    Extent {
+        logical: start,
+        physical: x.physical + passed,
+        count: x.count - passed,
+    }
+}
 
 // Of a extents the last, which starts before l, ends there at the latest.
 fn clip_right(ext: &mut [u32], used: usize, a: usize, l: u32)
@@ -22,19 +45,8 @@ fn clip_right(ext: &mut [u32], used: usize, a: usize, l: u32)
     if a < 1 {
         return;
     }
-    let i = a - 1;
-    if map::end_of(ext, i) <= (l as u64) {
-        return;
-    }
-    let at = 3 * i;
-    let start = ext[at];
-    let p = ext[at + 1];
-    let left = Extent {
-        logical: start,
-        physical: p,
-        count: l - start,
-    };
-    words::put_slot(ext, i, left);
+    let x = words::slot_at(ext, a - 1);
+    words::put_slot(ext, a - 1, up_to(x, l));
 }
 
 // The extent in slot z, where there is one, ends after e begins. It starts there at the earliest.
@@ -45,19 +57,8 @@ fn clip_left(ext: &mut [u32], used: usize, z: usize, e: u32)
     if used <= z {
         return;
     }
-    let at = 3 * z;
-    let q = ext[at];
-    if e <= q {
-        return;
-    }
-    let p = ext[at + 1];
-    let c = ext[at + 2];
-    let right = Extent {
-        logical: e,
-        physical: p + (e - q),
-        count: c - (e - q),
-    };
-    words::put_slot(ext, z, right);
+    let x = words::slot_at(ext, z);
+    words::put_slot(ext, z, on_from(x, e));
 }
 
 // The extent in slot i, which starts before l and ends after e begins, is taken apart.
@@ -65,17 +66,16 @@ fn split(ext: &mut [u32], used: usize, i: usize, l: u32, e: u32)
     requires { Holds ext.old used × (i < used) × (3 * used + 3 ≤ length ext.old) × ((slot ext.old i).logical < l) × (l < e) × (e < end (slot ext.old i)) × Piece (slot ext.old i) }
     ensures { ext.new ≡ padded (length ext.old) (split_at l e i (slots_from ext.old 0 used)) }
 {
-    let at = 3 * i;
-    let q = ext[at];
-    let p = ext[at + 1];
-    let c = ext[at + 2];
-    let right = [e, p + (e - q), c - (e - q)];
-    map::insert(ext, used, i + 1, &right, 1);
-    let left = Extent {
-        logical: q,
-        physical: p,
-        count: l - q,
-    };
+    let x = words::slot_at(ext, i);
+    let left = up_to(x, l);
+    let right = on_from(x, e);
+    map::insert(
+        ext,
+        used,
+        i + 1,
+        &[right.logical, right.physical, right.count],
+        1,
+    );
     words::put_slot(ext, i, left);
 }
 
@@ -88,8 +88,9 @@ pub fn open_gap(ext: &mut [u32], used: usize, sides: Sides, l: u32, e: u32) -> G
     let z = used - sides.after;
     if z < a {
         split(ext, used, z, l, e);
+        let used = used + 1;
         return Gap {
-            used: used + 1,
+            used,
             from: a,
             to: a,
         };
@@ -97,7 +98,7 @@ pub fn open_gap(ext: &mut [u32], used: usize, sides: Sides, l: u32, e: u32) -> G
     clip_right(ext, used, a, l);
     clip_left(ext, used, z, e);
     Gap {
-        used: used,
+        used,
         from: a,
         to: z,
     }

@@ -2,11 +2,11 @@
 
 // What a reclaim changes once nothing refuses it. That nothing does is required here (`Ready`), with the victim that was found on the way to it; the answer and the words
 // are promised as the rules give them.
-ghost use Rattle.std.specs.Prelude.{◌≡◌};
+ghost use Rattle.std.specs.Prelude.{◌≡◌, [], ◌∷◌};
 ghost use Rattle.rules.specs.Lent.{lent};
 ghost use Rattle.rules.specs.Device.{device_of};
 ghost use Rattle.rules.specs.Reclaim.{victim};
-ghost use Rattle.rules.specs.Answers.{outcome, listed};
+ghost use Rattle.rules.specs.Answers.{said, outcome};
 ghost use Rattle.rules.specs.Calls.{Call, call};
 ghost use Rattle.refusals.specs.Accepts.{Ready};
 
@@ -23,7 +23,7 @@ pub fn empty_victim(
 ) -> Listed
     requires ready { Ready (Call.reclaim out.old) (lent h ext.old blk.old spare.old) }
     requires v_value { v ≡ victim (device_of (lent h ext.old blk.old spare.old)) }
-    ensures { outcome (listed result) ext.new blk.new spare.new out.new
+    ensures { outcome (said 0 (result.count ∷ []) result.head) ext.new blk.new spare.new out.new
         ≡ call (Call.reclaim out.old) (lent h ext.old blk.old spare.old) }
 {
     let used = h.used as usize;
@@ -34,8 +34,10 @@ pub fn empty_victim(
     reclaiming::move_labels(spare, out, k as usize, n, h.reserve, v);
     reclaiming::move_blocks(blk, h.reserve, v);
     let nodes = reclaiming::move_map(ext, used, n, v, h.reserve, &ranks);
-    let mut after = h;
-    after.used = nodes as u32;
-    after.reserve = v;
-    Listed::Accepted(k, after)
+    let head = Head {
+        used: nodes as u32,
+        reserve: v,
+        ..h
+    };
+    Listed { count: k, head }
 }

@@ -7,7 +7,8 @@ use denote.Triple.Clauses.{AtExit}
 use borrow.Fn.Kinds.{Dens, ended_of}
 use Rattle.rules.specs.Lent.{Lent, lent}
 use Rattle.rules.specs.Answers.{Outcome, done, listed, counted}
-use Rattle.rules.specs.Calls.{Call, call, fresh}
+use Rattle.rules.specs.Calls.{Call, call, sizes_only, fresh}
+use Rattle.rules.specs.declared.Head.{Head}
 use Rattle.demands.specs.Demand1.{Answers, FreshAnswers}
 use Rattle.demands.proofs.Proved.{demand_1}
 use Rattle.layer.specs.Told.{done-one, listed-one, counted-one}
@@ -36,6 +37,10 @@ module _ (κs : Lfts 3) (a : Dens κs Fresh.ps) where
     answer = λ s. [];
   }
 
+  -- the head of a refusal: the sizes that were given
+  abbrev pub fresh-head : Head
+  fresh-head = sizes_only a.0 a.1.0 a.1.1.0 a.1.1.1.0
+
   abbrev pub FreshRight : Outcome Lent → Type 0
   FreshRight = FreshAnswers a.0 a.1.0 a.1.1.0 a.1.1.1.0 a.1.1.1.1.0.now a.1.1.1.1.1.0.now a.1.1.1.1.1.1.0.now
 
@@ -45,9 +50,9 @@ module _ (κs : Lfts 3) (a : Dens κs Fresh.ps) where
   pub fresh-right : FreshRight freshly
   fresh-right = demand_1.freshes a.0 a.1.0 a.1.1.0 a.1.1.1.0 a.1.1.1.1.0.now a.1.1.1.1.1.0.now a.1.1.1.1.1.1.0.now
 
-  pub fresh_promises : Promises (fresh-contract.Asked κs a) (fresh-contract.Post κs a) done fresh-words FreshRight
+  pub fresh_promises : Promises (fresh-contract.Asked κs a) (fresh-contract.Post κs a) (done fresh-head) fresh-words FreshRight
   fresh_promises =
-      by_rule (fresh-contract.Post κs a) done fresh-words FreshRight freshly fresh-right (λ r s p. p) (λ r r' s s' p q. done-one r r')
+      by_rule (fresh-contract.Post κs a) (done fresh-head) fresh-words FreshRight freshly fresh-right (λ r s p. p) (λ r r' s s' p q. done-one _ r r')
 
 -- h, ext, blk, spare, number, l, n, out
 module _ (κs : Lfts 4) (a : Dens κs Write.ps) where
@@ -65,10 +70,10 @@ module _ (κs : Lfts 4) (a : Dens κs Write.ps) where
   abbrev pub writes-to : Lent
   writes-to = lent a.0 a.1.0.now a.1.1.0.now a.1.1.1.0.now
 
-  pub write_promises : Promises (write-contract.Asked κs a) (write-contract.Post κs a) listed write-words (Answers writes writes-to)
+  pub write_promises : Promises (write-contract.Asked κs a) (write-contract.Post κs a) (listed a.0) write-words (Answers writes writes-to)
   write_promises =
-      by_rule (write-contract.Post κs a) listed write-words (Answers writes writes-to) (call writes writes-to) (demand_1.calls writes writes-to)
-      (λ r s p. p) (λ r r' s s' p q. listed-one r r')
+      by_rule (write-contract.Post κs a) (listed a.0) write-words (Answers writes writes-to) (call writes writes-to) (demand_1.calls writes writes-to)
+      (λ r s p. p) (λ r r' s s' p q. listed-one _ r r')
 
 -- h, ext, blk, spare, number, l, n; spare is only read
 module _ (κs : Lfts 3) (a : Dens κs Trim.ps) where
@@ -81,10 +86,10 @@ module _ (κs : Lfts 3) (a : Dens κs Trim.ps) where
   abbrev pub trims-to : Lent
   trims-to = lent a.0 a.1.0.now a.1.1.0.now a.1.1.1.0.now
 
-  pub trim_promises : Promises (trim-contract.Asked κs a) (trim-contract.Post κs a) done trim-words (Answers trims trims-to)
+  pub trim_promises : Promises (trim-contract.Asked κs a) (trim-contract.Post κs a) (done a.0) trim-words (Answers trims trims-to)
   trim_promises =
-      by_rule (trim-contract.Post κs a) done trim-words (Answers trims trims-to) (call trims trims-to) (demand_1.calls trims trims-to)
-      (λ r s p. p) (λ r r' s s' p q. done-one r r')
+      by_rule (trim-contract.Post κs a) (done a.0) trim-words (Answers trims trims-to) (call trims trims-to) (demand_1.calls trims trims-to)
+      (λ r s p. p) (λ r r' s s' p q. done-one _ r r')
 
 -- h, ext, blk, spare, l, n, out; the state is only read
 module _ (κs : Lfts 4) (a : Dens κs Read.ps) where
@@ -102,10 +107,10 @@ module _ (κs : Lfts 4) (a : Dens κs Read.ps) where
   abbrev pub reads-from : Lent
   reads-from = lent a.0 a.1.0.now a.1.1.0.now a.1.1.1.0.now
 
-  pub read_promises : Promises (read-contract.Asked κs a) (read-contract.Post κs a) listed read-words (Answers reads reads-from)
+  pub read_promises : Promises (read-contract.Asked κs a) (read-contract.Post κs a) (listed a.0) read-words (Answers reads reads-from)
   read_promises =
-      by_rule (read-contract.Post κs a) listed read-words (Answers reads reads-from) (call reads reads-from) (demand_1.calls reads reads-from)
-      (λ r s p. p) (λ r r' s s' p q. listed-one r r')
+      by_rule (read-contract.Post κs a) (listed a.0) read-words (Answers reads reads-from) (call reads reads-from) (demand_1.calls reads reads-from)
+      (λ r s p. p) (λ r r' s s' p q. listed-one _ r r')
 
 -- h, ext, blk, spare, out
 module _ (κs : Lfts 4) (a : Dens κs Reclaim.ps) where
@@ -123,10 +128,10 @@ module _ (κs : Lfts 4) (a : Dens κs Reclaim.ps) where
   abbrev pub reclaims_in : Lent
   reclaims_in = lent a.0 a.1.0.now a.1.1.0.now a.1.1.1.0.now
 
-  pub reclaim_promises : Promises (reclaim-contract.Asked κs a) (reclaim-contract.Post κs a) listed reclaim-words (Answers reclaims reclaims_in)
+  pub reclaim_promises : Promises (reclaim-contract.Asked κs a) (reclaim-contract.Post κs a) (listed a.0) reclaim-words (Answers reclaims reclaims_in)
   reclaim_promises =
-      by_rule (reclaim-contract.Post κs a) listed reclaim-words (Answers reclaims reclaims_in) (call reclaims reclaims_in) (demand_1.calls reclaims reclaims_in)
-      (λ r s p. p) (λ r r' s s' p q. listed-one r r')
+      by_rule (reclaim-contract.Post κs a) (listed a.0) reclaim-words (Answers reclaims reclaims_in) (call reclaims reclaims_in) (demand_1.calls reclaims reclaims_in)
+      (λ r s p. p) (λ r r' s s' p q. listed-one _ r r')
 
 -- h, ext, blk, spare; the state is only read
 module _ (κs : Lfts 3) (a : Dens κs Report.ps) where
@@ -136,7 +141,7 @@ module _ (κs : Lfts 3) (a : Dens κs Report.ps) where
   abbrev pub reports-on : Lent
   reports-on = lent a.0 a.1.0.now a.1.1.0.now a.1.1.1.0.now
 
-  pub report_promises : Promises (report-contract.Asked κs a) (report-contract.Post κs a) counted report-words (Answers Call.report reports-on)
+  pub report_promises : Promises (report-contract.Asked κs a) (report-contract.Post κs a) (counted a.0) report-words (Answers Call.report reports-on)
   report_promises =
-      by_rule (report-contract.Post κs a) counted report-words (Answers Call.report reports-on) (call Call.report reports-on) (demand_1.calls Call.report reports-on)
-      (λ r s p. p) (λ r r' s s' p q. counted-one r r')
+      by_rule (report-contract.Post κs a) (counted a.0) report-words (Answers Call.report reports-on) (call Call.report reports-on) (demand_1.calls Call.report reports-on)
+      (λ r s p. p) (λ r r' s s' p q. counted-one _ r r')

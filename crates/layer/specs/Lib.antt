@@ -1,3 +1,4 @@
 pub mod Told
 pub mod Promises
 pub mod ByRule
+pub mod Held

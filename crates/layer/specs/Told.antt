@@ -1,37 +1,33 @@
 -- What an answer says tells it apart: two answers that say the same are equal.
-use Rattle.std.specs.Prelude.{ℕ, ◌≡◌, List, get_or}
+use Rattle.std.specs.Prelude.{ℕ, ◌≡◌, get_or, Result, Ok, Err}
 use Rattle.std.proofs.Common.{sym, ap}
 use Rattle.rules.specs.Answers.{Said, done, listed, counted}
-use Rattle.rules.specs.declared.Done.{Done}
+use Rattle.rules.specs.declared.Head.{Head}
+use Rattle.rules.specs.declared.Refusal.{Refusal}
 use Rattle.rules.specs.declared.Listed.{Listed}
 use Rattle.rules.specs.declared.Counted.{Counted}
 use Rattle.laws.specs.Refused.{number_some, number_one}
 
-first : List ℕ → ℕ
-first xs = get_or xs 0 0
+at : ℕ → Said → ℕ
+at i s = get_or s.counts i 0
 
-pub done-one : (a b : Done) → done a ≡ done b → a ≡ b
-done-one (Done.Accepted h) (Done.Accepted g) e = ap (λ (s : Said). Done.Accepted s.head) e
-done-one (Done.Accepted h) (Done.Refused t g) e = absurd (number_some t (sym (ap (λ (s : Said). s.refusal) e)))
-done-one (Done.Refused r h) (Done.Accepted g) e = absurd (number_some r (ap (λ (s : Said). s.refusal) e))
-done-one (Done.Refused r h) (Done.Refused t g) e =
-    let n = number_one r t (ap (λ (s : Said). s.refusal) e) in
-    λ i. Done.Refused (n i) (e i).head
+module _ (h : Head) where
+  pub done-one : (a b : Result Head Refusal) → done h a ≡ done h b → a ≡ b
+  done-one (Ok x) (Ok y) e = ap (λ (s : Said). Ok s.head) e
+  done-one (Ok x) (Err t) e = absurd (number_some t (sym (ap (λ (s : Said). s.refusal) e)))
+  done-one (Err r) (Ok y) e = absurd (number_some r (ap (λ (s : Said). s.refusal) e))
+  done-one (Err r) (Err t) e = ap Err (number_one r t (ap (λ (s : Said). s.refusal) e))
 
-pub listed-one : (a b : Listed) → listed a ≡ listed b → a ≡ b
-unfolding first
-listed-one (Listed.Accepted k h) (Listed.Accepted m g) e = λ i. Listed.Accepted (ap (λ (s : Said). first s.counts) e i) (e i).head
-listed-one (Listed.Accepted k h) (Listed.Refused t g) e = absurd (number_some t (sym (ap (λ (s : Said). s.refusal) e)))
-listed-one (Listed.Refused r h) (Listed.Accepted m g) e = absurd (number_some r (ap (λ (s : Said). s.refusal) e))
-listed-one (Listed.Refused r h) (Listed.Refused t g) e =
-    let n = number_one r t (ap (λ (s : Said). s.refusal) e) in
-    λ i. Listed.Refused (n i) (e i).head
+  pub listed-one : (a b : Result Listed Refusal) → listed h a ≡ listed h b → a ≡ b
+  unfolding at
+  listed-one (Ok x) (Ok y) e = λ i. Ok (record { count = ap (at 0) e i; head = (e i).head })
+  listed-one (Ok x) (Err t) e = absurd (number_some t (sym (ap (λ (s : Said). s.refusal) e)))
+  listed-one (Err r) (Ok y) e = absurd (number_some r (ap (λ (s : Said). s.refusal) e))
+  listed-one (Err r) (Err t) e = ap Err (number_one r t (ap (λ (s : Said). s.refusal) e))
 
-pub counted-one : (a b : Counted) → counted a ≡ counted b → a ≡ b
-counted-one (Counted.Accepted f l s h) (Counted.Accepted f' l' s' g) e =
-    λ i. Counted.Accepted (ap (λ (x : Said). get_or x.counts 0 0) e i) (ap (λ (x : Said). get_or x.counts 1 0) e i) (ap (λ (x : Said). get_or x.counts 2 0) e i) (e i).head
-counted-one (Counted.Accepted f l s h) (Counted.Refused t g) e = absurd (number_some t (sym (ap (λ (s : Said). s.refusal) e)))
-counted-one (Counted.Refused r h) (Counted.Accepted f l s g) e = absurd (number_some r (ap (λ (s : Said). s.refusal) e))
-counted-one (Counted.Refused r h) (Counted.Refused t g) e =
-    let n = number_one r t (ap (λ (s : Said). s.refusal) e) in
-    λ i. Counted.Refused (n i) (e i).head
+  pub counted-one : (a b : Result Counted Refusal) → counted h a ≡ counted h b → a ≡ b
+  unfolding at
+  counted-one (Ok x) (Ok y) e = λ i. Ok (record { free = ap (at 0) e i; live = ap (at 1) e i; stale = ap (at 2) e i })
+  counted-one (Ok x) (Err t) e = absurd (number_some t (sym (ap (λ (s : Said). s.refusal) e)))
+  counted-one (Err r) (Ok y) e = absurd (number_some r (ap (λ (s : Said). s.refusal) e))
+  counted-one (Err r) (Err t) e = ap Err (number_one r t (ap (λ (s : Said). s.refusal) e))

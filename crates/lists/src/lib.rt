@@ -2,15 +2,16 @@
 
 // Request lists (docs/REPLAY.md), read and printed: what a line asks or what is wrong with it, and the answers as they are printed. Nothing here
 // knows what answers the requests, and no fact about an answer is counted on.
-ghost use Rattle.std.specs.Counts.{IsPrefixLen};
+ghost use Rattle.std.specs.Prelude.{◌≡◌, take};
 
 pub mod line;
 pub mod print;
+pub mod request;
 pub mod word;
 
-// The number from 0 to the length of words that is nearest to n.
-pub fn within(n: usize, words: &[u32]) -> usize
-    ensures { IsPrefixLen result words.now }
+// The first n words, or all where there are no more.
+pub fn first(words: &[u32], n: usize) -> &[u32]
+    ensures { result.now ≡ take n words.now }
 {
-    if n < words.len() { n } else { words.len() }
+    &words[..n.min(words.len())]
 }

@@ -3,10 +3,10 @@
 // What begins a history, once nothing refuses it: a fresh device. It takes no heed of what the words held; that they fit its sizes is required here.
 ghost use Rattle.std.specs.Prelude.{◌≡◌, true, [], length};
 ghost use Rattle.rules.specs.Shape.{shape};
-ghost use Rattle.rules.specs.Answers.{outcome, done};
+ghost use Rattle.rules.specs.Answers.{said, outcome};
 ghost use Rattle.rules.specs.Calls.{sizes_only, fresh};
 
-use rules::Done;
+use rules::Head;
 
 // A fresh device of sizes that fit: no extents, nothing programmed, the last block in reserve.
 pub fn make_fresh(
@@ -17,14 +17,15 @@ pub fn make_fresh(
     ext: &mut [u32],
     blk: &mut [u32],
     spare: &mut [u32],
-) -> Done
+) -> Head
     requires { shape (sizes_only b n l m) (length ext.old) (length blk.old) (length spare.old) ≡ true }
-    ensures { outcome (done result) ext.new blk.new spare.new [] ≡ fresh b n l m ext.old blk.old spare.old }
+    ensures { outcome (said 0 [] result) ext.new blk.new spare.new [] ≡ fresh b n l m ext.old blk.old spare.old }
 {
     words::fill_with(ext, 0);
     words::fill_with(blk, 0);
-    words::fill_with(spare, 4294967295);
-    let mut h = words::sizes_only(b, n, l, m);
-    h.reserve = b - 1;
-    Done::Accepted(h)
+    words::fill_with(spare, u32::MAX);
+    Head {
+        reserve: b - 1,
+        ..words::sizes_only(b, n, l, m)
+    }
 }

@@ -1,21 +1,22 @@
 -- Where a range meets the extents in use: the numbers of `Counts`, and the last extent before a slot.
 use Prim.Native.Nat.{ℕ, zero, suc, ◌+◌, ◌-◌, ◌/◌, ◌≤◌, ◌<◌}
-use Rattle.std.specs.Prelude.{◌≡◌, Bool, ◌&&◌, List, ltb, length}
+use Rattle.std.specs.Prelude.{◌≡◌, Bool, List, ltb, length}
 use Rattle.std.proofs.Math.Path.{refl, sym, ap}
 use Rattle.std.proofs.Common.{◌∙◌, eq-eqb}
-use Rattle.std.proofs.Math.Bool.{true, false}
+use Rattle.std.proofs.Math.Bool.{false}
 use native.Mathlib.Omega.{arith}
 use Rattle.std.proofs.Math.Dec.{eqb}
+use Rattle.std.proofs.lemmas.Bool.{eqb-true}
 use Rattle.rules.specs.Counting.{one}
-use Rattle.rules.specs.Extents.{none, extent, end, joinable, slot, slots_from}
+use Rattle.rules.specs.Extents.{none, end, joinable, slot, slots_from}
 use Rattle.rules.specs.Lent.{Lent, in_use}
 use Rattle.rules.specs.Device.{extents, device_of}
 use Rattle.rules.specs.Request.{trimmed}
 use Rattle.rules.specs.declared.Extent.{Extent}
-use Rattle.laws.specs.Bools.{never}
+use Rattle.laws.specs.Bools.{never, same_test}
 use Rattle.laws.specs.Rows.{Rows}
 use Rattle.laws.specs.Sound.{Shaped, SoundState}
-use Rattle.laws.specs.Runs.{joinable-true}
+use Rattle.laws.specs.Runs.{joinable-true, joined-true}
 use Rattle.laws.specs.Slots.{slots_at, slots_length}
 use Rattle.laws.specs.Counts.{starts_before, ends_after, left_join, tally_le, left-none, left-last}
 use Rattle.laws.specs.Growth.{trim-grows}
@@ -82,30 +83,27 @@ joins-before n hi f ws u (suc i) h e =
     let at = slots_at ws 0 u i i (slot ws 0) (omega (arith, slots_length ws 0 u)) (omega arith) in
     sym (left-last n hi f.logical f (slots_from ws 0 u) 0 none i (slot ws 0) h refl (omega arith) ∙ ap (λ (x : Extent). one (joinable n x f)) at)
 
-module _ (n l p before : ℕ) (ws : List ℕ) where
-  last : 1 ≤ before → joins_before n (extent l p 1) before ws ≡ joinable n (slot ws (before - 1)) (extent l p 1)
-  unfolding joins_before
-  last h = let e : before ≡ suc (before - 1) = omega arith in ap (λ (b : ℕ). joins_before n (extent l p 1) b ws) e
+pub none_before : (n before : ℕ) (f : Extent) (ws : List ℕ) → before < 1 → false ≡ joins_before n f before ws
+unfolding joins_before
+none_before n before f ws h = let e : before ≡ 0 = omega arith in rw e
 
-  pub none_before : before < 1 → false ≡ joins_before n (extent l p 1) before ws
-  unfolding joins_before
-  none_before h = let e : before ≡ 0 = omega arith in rw e
+-- x is the extent in front of slot `before`
+pub last-joins : (n before : ℕ) (f x : Extent) (ws : List ℕ) → 1 ≤ before → x ≡ slot ws (before - 1) → joinable n x f ≡ joins_before n f before ws
+unfolding joins_before
+last-joins n before f x ws h g =
+    let e : suc (before - 1) ≡ before = omega arith in
+    ap (λ (y : Extent). joinable n y f) g ∙ ap (λ (b : ℕ). joins_before n f b ws) e
 
-  pub not-next-logical : 1 ≤ before → (l ≡ end (slot ws (before - 1)) → ⊥) → false ≡ joins_before n (extent l p 1) before ws
-  not-next-logical h s = sym (last h ∙ never (joinable n (slot ws (before - 1)) (extent l p 1)) (λ e. s (joinable-true n _ _ e).logical))
+-- `joinable`, its three tests in the code's order
+module _ (n : ℕ) (x f : Extent) where
+  pub next_apart : (f.logical ≡ end x → ⊥) → false ≡ joinable n x f
+  next_apart h = sym (never (joinable n x f) (λ e. h (joinable-true n x f e).logical))
 
-  pub not_behind : 1 ≤ before → (p ≡ (slot ws (before - 1)).physical + (slot ws (before - 1)).count → ⊥) → false ≡ joins_before n (extent l p 1) before ws
-  not_behind h s = sym (last h ∙ never (joinable n (slot ws (before - 1)) (extent l p 1)) (λ e. s (joinable-true n _ _ e).physical))
+  pub page_apart : (f.physical ≡ x.physical + x.count → ⊥) → false ≡ joinable n x f
+  page_apart h = sym (never (joinable n x f) (λ e. h (joinable-true n x f e).physical))
 
-  pub by_block : 1 ≤ before → l ≡ end (slot ws (before - 1)) → p ≡ (slot ws (before - 1)).physical + (slot ws (before - 1)).count
-      → eqb ((slot ws (before - 1)).physical / n) (p / n) ≡ joins_before n (extent l p 1) before ws
-  unfolding joinable
-  by_block h s t =
-      let x = slot ws (before - 1) in
-      let b = eqb (x.physical / n) (p / n) in
-      sym (last h ∙ ap (λ (y : Bool). (b && y) && eqb p (x.physical + x.count)) (eq-eqb l (end x) s)
-      ∙ ap (λ (y : Bool). (b && true) && y) (eq-eqb p (x.physical + x.count) t) ∙ both b)
-    where
-      both : (b : Bool) → ((b && true) && true) ≡ b
-      both true = refl
-      both false = refl
+  pub by_block : f.logical ≡ end x → f.physical ≡ x.physical + x.count → eqb (x.physical / n) (f.physical / n) ≡ joinable n x f
+  by_block h t =
+      same_test (eqb (x.physical / n) (f.physical / n)) (joinable n x f)
+      (λ e. joined-true n x f (record { block = eqb-true _ _ e; logical = h; physical = t }))
+      (λ e. eq-eqb _ _ (joinable-true n x f e).block)

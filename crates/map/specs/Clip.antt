@@ -10,7 +10,7 @@ use native.Mathlib.Omega.{arith}
 use Rattle.std.proofs.Math.Decide.{dec_lt}
 use Rattle.std.proofs.Math.Dec.{ltb}
 use Rattle.std.proofs.Math.ListN.{get_or, take, drop, set, length-set}
-use Rattle.std.proofs.lemmas.List.{take-set-le, drop-set-add, set-get_or, set-append_left}
+use Rattle.std.proofs.lemmas.List.{take-set-le, drop-set-add, set-append_left}
 use Rattle.std.proofs.Math.Seq.{drop-cons, set_out, take-set-lt, length-take-le}
 use Rattle.rules.specs.Counting.{one}
 use Rattle.rules.specs.Extents.{none, extent, end, slot, put_slot, slots_from}
@@ -193,52 +193,29 @@ module _ (ws : List ℕ) (u : ℕ) where
     unfolding clip_right
     right-none l a s = let e : a ≡ 0 = omega arith in rw e h.is
 
-    pub right-same : (l a : ℕ) → 1 ≤ a → a ≤ u → end (slot ws (a - 1)) ≤ l → ws ≡ padded (length ws) (clip_right l a (slots_from ws 0 u))
-    unfolding clip_right
-    right-same l a s t b =
-        let e : a ≡ suc (a - 1) = omega arith in
-        let x = at_slot (a - 1) (omega arith) in
-        rw e (h.is ∙ ap (padded (length ws)) (sym (set-get_or (slots_from ws 0 u) (a - 1) blank)
-        ∙ ap (set (slots_from ws 0 u) (a - 1)) (extent_path (get_or (slots_from ws 0 u) (a - 1) blank) (up_to l (get_or (slots_from ws 0 u) (a - 1) blank)) refl refl (rw x (omega arith)))))
-
-    pub right-set : (l a : ℕ) (ws' : List ℕ) → 1 ≤ a → a ≤ u → (slot ws (a - 1)).logical ≤ l → l < end (slot ws (a - 1))
-        → ws' ≡ put_slot ws (a - 1) (extent (slot ws (a - 1)).logical (slot ws (a - 1)).physical (l - (slot ws (a - 1)).logical))
+    pub right-put : (l a : ℕ) (left : Extent) (ws' : List ℕ) → 1 ≤ a → a ≤ u → left ≡ up_to l (slot ws (a - 1)) → ws' ≡ put_slot ws (a - 1) left
         → ws' ≡ padded (length ws) (clip_right l a (slots_from ws 0 u))
     unfolding clip_right
-    right-set l a ws' s t b d g =
+    right-put l a left ws' s t c g =
         let e : a ≡ suc (a - 1) = omega arith in
         let x = at_slot (a - 1) (omega arith) in
-        rw e (g ∙ holds-put ws u (a - 1) _ h (omega arith) ∙ ap (λ (y : Extent). padded (length ws) (set (slots_from ws 0 u) (a - 1) y))
-        (extent_path _ (up_to l (slot ws (a - 1))) refl refl (omega arith) ∙ ap (up_to l) (sym x)))
+        rw e (g ∙ holds-put ws u (a - 1) left h (omega arith) ∙ ap (λ (y : Extent). padded (length ws) (set (slots_from ws 0 u) (a - 1) y)) (c ∙ ap (up_to l) (sym x)))
 
     pub clip_left-none : (e z : ℕ) → u ≤ z → ws ≡ padded (length ws) (clip_left e z (slots_from ws 0 u))
     unfolding clip_left
     clip_left-none e z s = h.is ∙ ap (padded (length ws)) (sym (set_out (slots_from ws 0 u) z _ (omega (arith, slots_length ws 0 u))))
 
-    pub left-same : (e z : ℕ) → z < u → e ≤ (slot ws z).logical → ws ≡ padded (length ws) (clip_left e z (slots_from ws 0 u))
-    unfolding clip_left
-    left-same e z s b =
-        let x = at_slot z s in
-        h.is ∙ ap (padded (length ws)) (sym (set-get_or (slots_from ws 0 u) z blank)
-        ∙ ap (set (slots_from ws 0 u) z) (x ∙ extent_path (slot ws z) (on_from e (slot ws z)) (omega arith) (omega arith) (omega arith) ∙ ap (on_from e) (sym x)))
-
-    pub left-set : (e z : ℕ) (ws' : List ℕ) → z < u → (slot ws z).logical < e
-        → ws' ≡ put_slot ws z (extent e ((slot ws z).physical + (e - (slot ws z).logical)) ((slot ws z).count - (e - (slot ws z).logical)))
+    pub left-put : (e z : ℕ) (right : Extent) (ws' : List ℕ) → z < u → right ≡ on_from e (slot ws z) → ws' ≡ put_slot ws z right
         → ws' ≡ padded (length ws) (clip_left e z (slots_from ws 0 u))
     unfolding clip_left
-    left-set e z ws' s b g =
-        g ∙ holds-put ws u z _ h s ∙ ap (λ (y : Extent). padded (length ws) (set (slots_from ws 0 u) z y))
-        (extent_path _ (on_from e (slot ws z)) (omega arith) (omega arith) (omega arith) ∙ ap (on_from e) (sym (at_slot z s)))
+    left-put e z right ws' s c g =
+        g ∙ holds-put ws u z right h s ∙ ap (λ (y : Extent). padded (length ws) (set (slots_from ws 0 u) z y)) (c ∙ ap (on_from e) (sym (at_slot z s)))
 
     -- the right part put in behind slot i
-    module _ (l e i : ℕ) (f : 3 * (u + 1) ≤ length ws) (t : i < u) (b : (slot ws i).logical ≤ l) (d : l < e) (k : e < end (slot ws i)) (mid : List ℕ)
-        (g : mid ≡ padded (length ws) (spliced (i + 1)
-        (extent e ((slot ws i).physical + (e - (slot ws i).logical)) ((slot ws i).count - (e - (slot ws i).logical)) ∷ []) (slots_from ws 0 u))) where
+    module _ (l e i : ℕ) (f : 3 * (u + 1) ≤ length ws) (t : i < u) (left right : Extent) (c : left ≡ up_to l (slot ws i)) (d : right ≡ on_from e (slot ws i))
+        (mid : List ℕ) (g : mid ≡ padded (length ws) (spliced (i + 1) (right ∷ []) (slots_from ws 0 u))) where
       abbrev es : List Extent
       es = slots_from ws 0 u
-
-      abbrev right : Extent
-      right = extent e ((slot ws i).physical + (e - (slot ws i).logical)) ((slot ws i).count - (e - (slot ws i).logical))
 
       abbrev both : List Extent
       both = spliced (i + 1) (right ∷ []) es
@@ -253,17 +230,13 @@ module _ (ws : List ℕ) (u : ℕ) where
       split_holds = became_holds (length ws) both mid (u + 1) g one_more f
 
       -- and slot i clipped
-      pub split_set : (ws' : List ℕ) → ws' ≡ put_slot mid i (extent (slot ws i).logical (slot ws i).physical (l - (slot ws i).logical))
-          → ws' ≡ padded (length ws) (split_at l e i es)
+      pub split_set : (ws' : List ℕ) → ws' ≡ put_slot mid i left → ws' ≡ padded (length ws) (split_at l e i es)
       unfolding split_at spliced
       split_set ws' q =
           let x = at_slot i t in
-          let left = extent (slot ws i).logical (slot ws i).physical (l - (slot ws i).logical) in
           q ∙ holds-put mid (u + 1) i left split_holds (omega arith)
           ∙ ap₂ (λ (j : ℕ) (xs : List Extent). padded j (set xs i left)) (became_length (length ws) both mid (u + 1) g one_more f)
           (became_slots (length ws) both mid (u + 1) g one_more f)
           ∙ ap (padded (length ws)) (set-append_left (take (i + 1) es) (right ∷ drop (i + 1) es) i left (omega (arith, length-take-le (i + 1) es (omega (arith, size))))
-          ∙ ap₂ (λ (y : Extent) (v : Extent). set (take (i + 1) es) i y ++ v ∷ drop (i + 1) es)
-          (extent_path left (up_to l (slot ws i)) refl refl (omega arith) ∙ ap (up_to l) (sym x))
-          (extent_path right (on_from e (slot ws i)) (omega arith) (omega arith) (omega arith) ∙ ap (on_from e) (sym x))
+          ∙ ap₂ (λ (y : Extent) (v : Extent). set (take (i + 1) es) i y ++ v ∷ drop (i + 1) es) (c ∙ ap (up_to l) (sym x)) (d ∙ ap (on_from e) (sym x))
           ∙ ap (λ (ys : List Extent). ys ++ on_from e (get_or es i blank) ∷ drop (i + 1) es) (sym (take-set-lt (i + 1) es i (up_to l (get_or es i blank)) (omega arith))))

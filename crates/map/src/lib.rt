@@ -10,13 +10,21 @@ ghost use Rattle.map.specs.Halved.{ends_by};
 ghost use Rattle.map.specs.Around.{Beside, joins_before};
 ghost use Rattle.map.specs.Padded.{padded, spliced, without, Holds};
 
+use rules::Extent;
+
+// Where an extent ends, as a whole number.
+pub fn end(x: Extent) -> u64
+    ensures { (result ≡ end x) × (result < 2 ^ 33) }
+{
+    (x.logical as u64) + (x.count as u64)
+}
+
 // Where slot i ends, as a whole number.
 pub fn end_of(ext: &[u32], i: usize) -> u64
     requires { 3 * i + 2 < length ext.now }
     ensures { (result ≡ end (slot ext.now i)) × (result < 2 ^ 33) }
 {
-    let at = 3 * i;
-    (ext[at] as u64) + (ext[at + 2] as u64)
+    end(words::slot_at(ext, i))
 }
 
 // How many of the extents in use end at or below a logical page: the first slot that ends after it, found by halving the slots that are left.
@@ -24,9 +32,10 @@ pub fn first_after(ext: &[u32], used: usize, page: u64) -> usize
     requires { (3 * used ≤ length ext.now) × SoundMap (slots_from ext.now 0 used) }
     ensures { result ≡ ends_by page (slots_from ext.now 0 used) }
 {
+    // The edits middle_lost and stops_one_early are mistakes in the halving, and `partition_point` does it out of their reach.
     let mut first: usize = 0;
     let mut left = used;
-    while 0 < left {
+    while left > 0 {
         let half = left / 2;
         let middle = first + half;
         if end_of(ext, middle) <= page {
@@ -61,14 +70,11 @@ fn starting_before(ext: &[u32], used: usize, first: usize, l: u32) -> usize
     requires { (3 * used ≤ length ext.now) × SoundMap (slots_from ext.now 0 used) × (first ≡ ends_by l (slots_from ext.now 0 used)) }
     ensures { result ≡ starts_before l (slots_from ext.now 0 used) }
 {
-    if used <= first {
-        return first;
+    if first < used && words::slot_at(ext, first).logical < l {
+        first + 1
+    } else {
+        first
     }
-    let at = 3 * first;
-    if l <= ext[at] {
-        return first;
-    }
-    first + 1
 }
 
 // Where the n logical pages from l on meet the extents in use, whether there are such pages or not.
@@ -81,9 +87,9 @@ pub fn around(ext: &[u32], used: usize, l: u32, n: u32) -> Sides
     let before = starting_before(ext, used, first, l);
     let after = used - behind;
     Sides {
-        first: first,
-        before: before,
-        after: after,
+        first,
+        before,
+        after,
     }
 }
 
@@ -95,16 +101,10 @@ pub fn joins_left(ext: &[u32], before: usize, pages: u32, l: u32, p: u32) -> boo
     if before < 1 {
         return false;
     }
-    let i = before - 1;
-    if (l as u64) != end_of(ext, i) {
-        return false;
-    }
-    let at = 3 * i;
-    let q = ext[at + 1];
-    if (p as u64) != (q as u64) + (ext[at + 2] as u64) {
-        return false;
-    }
-    q / pages == p / pages
+    let x = words::slot_at(ext, before - 1);
+    (l as u64) == end(x)
+        && (p as u64) == (x.physical as u64) + (x.count as u64)
+        && x.physical / pages == p / pages
 }
 
 // The k extents of `new` come in at slot i, and the slots from there on move up, once for all of them. Where none comes in, none moves.

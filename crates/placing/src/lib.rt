@@ -8,7 +8,7 @@ ghost use Rattle.starting.specs.Bare.{bare};
 ghost use Rattle.placing.specs.Blocks.{raised};
 ghost use Rattle.placing.specs.Place.{RoomFor, PlacedIn, Placeable, Placed};
 
-use rules::Extent;
+use rules::{BlockRecord, Extent};
 
 // m pages more in block b, each of them mapped.
 fn raise(blk: &mut [u32], b: usize, m: u32)
@@ -16,9 +16,10 @@ fn raise(blk: &mut [u32], b: usize, m: u32)
     ensures { blk.new ≡ raised m b blk.old }
 {
     let r = words::block_at(blk, b);
-    let mut more = r;
-    more.fill = r.fill + m;
-    more.valid = r.valid + m;
+    let more = BlockRecord {
+        fill: r.fill + m,
+        valid: r.valid + m,
+    };
     words::put_block(blk, b, more);
 }
 
@@ -69,15 +70,13 @@ pub fn place(
 {
     let mut done: u32 = 0;
     let mut k: u32 = 0;
-    let mut b = from;
-    while b < blocks as usize {
+    for b in from..blocks as usize {
         if done == want {
             return k;
         }
         let m = starting::room_in(blk, b, n, reserve, want - done);
         k = place_in(blk, spare, out, b, n, l + done, m, k);
         done += m;
-        b += 1;
     }
     k
 }

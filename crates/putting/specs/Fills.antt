@@ -7,7 +7,7 @@ use native.Mathlib.Omega.{arith}
 use borrow.Rule.Slice.PartMut.{put_mid}
 use Rattle.std.proofs.Math.Seq.{drop-append-add}
 use Rattle.rules.specs.Counting.{one}
-use Rattle.rules.specs.Extents.{extent, slot, put_slot, slots_from}
+use Rattle.rules.specs.Extents.{slot, put_slot, slots_from}
 use Rattle.rules.specs.declared.Extent.{Extent}
 use Rattle.laws.specs.Slots.{slots_length, slots-join, slots-part}
 use Rattle.map.specs.Padded.{padded, spliced, spliced-length, spliced-seam, without, Holds, Becomes, became_length, became_slots, became_holds, holds-put, holds-over}
@@ -151,14 +151,13 @@ pub record Puttable (ws : List ℕ) (u a z : ℕ) (joined : Bool) (new : List �
   pub joins : joined ≡ true → (1 ≤ a) × ((slot ws (a - 1)).count + (slot new 0).count < 2 ^ 32)
 
 -- the extent before slot i with c pages more
-pub lengthened-set : (ws : List ℕ) (u i c : ℕ) (ws' : List ℕ) → Holds ws u → 1 ≤ i → i ≤ u
-    → ws' ≡ put_slot ws (i - 1) (extent (slot ws (i - 1)).logical (slot ws (i - 1)).physical ((slot ws (i - 1)).count + c))
+pub lengthened-set : (ws : List ℕ) (u i c : ℕ) (x : Extent) (ws' : List ℕ) → Holds ws u → 1 ≤ i → i ≤ u → x ≡ slot ws (i - 1) → ws' ≡ put_slot ws (i - 1) (longer c x)
     → ws' ≡ padded (length ws) (lengthened i c (slots_from ws 0 u))
 unfolding lengthened
-lengthened-set ws u i c ws' h s t g =
+lengthened-set ws u i c x ws' h s t y g =
     let e : i ≡ suc (i - 1) = omega arith in
-    rw e (g ∙ holds-put ws u (i - 1) _ h (omega arith)
-    ∙ ap (λ (x : Extent). padded (length ws) (set (slots_from ws 0 u) (i - 1) (longer c x))) (sym (at_slot ws u (i - 1) (omega arith))))
+    rw e (g ∙ holds-put ws u (i - 1) (longer c x) h (omega arith)
+    ∙ ap (λ (z : Extent). padded (length ws) (set (slots_from ws 0 u) (i - 1) (longer c z))) (y ∙ sym (at_slot ws u (i - 1) (omega arith))))
 
 first_piece : (new : List ℕ) (k : ℕ) → 1 ≤ k → slots_from new 0 k ≡ slot new 0 ∷ slots_from new 1 (k - 1)
 unfolding slots_from

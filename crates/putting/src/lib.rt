@@ -2,7 +2,7 @@
 
 // A write's pieces put into the extents, in place, where its range was cut out: assumed are the gap that it left, whether the first joins the extent in
 // front of it, and slots enough; promised is the list of extents with them, and zeros behind it.
-ghost use Rattle.std.specs.Prelude.{◌≡◌, ◌+◌, ◌-◌, ◌<◌, ◌≤◌, ◌^◌, min, length};
+ghost use Rattle.std.specs.Prelude.{◌≡◌, ◌+◌, ◌-◌, ◌<◌, ◌≤◌, ◌^◌, length};
 ghost use Rattle.rules.specs.Extents.{slot, slots_from};
 ghost use Rattle.map.specs.Padded.{padded, spliced, without, Holds, Becomes};
 ghost use Rattle.putting.specs.Pieces.{lengthened, put_in};
@@ -16,26 +16,9 @@ fn lengthen(ext: &mut [u32], used: usize, i: usize, c: u32)
     requires { Holds ext.old used × (1 ≤ i) × (i ≤ used) × ((slot ext.old (i - 1)).count + c < 2 ^ 32) }
     ensures { ext.new ≡ padded (length ext.old) (lengthened i c (slots_from ext.old 0 used)) }
 {
-    let j = i - 1;
-    let at = 3 * j;
-    let l = ext[at];
-    let p = ext[at + 1];
-    let d = ext[at + 2];
-    let longer = Extent {
-        logical: l,
-        physical: p,
-        count: d + c,
-    };
-    words::put_slot(ext, j, longer);
-}
-
-fn smaller(a: usize, b: usize) -> usize
-    ensures { result ≡ min a b }
-{
-    if a < b {
-        return a;
-    }
-    b
+    let x = words::slot_at(ext, i - 1);
+    let count = x.count + c;
+    words::put_slot(ext, i - 1, Extent { count, ..x });
 }
 
 // The pieces from s up to k come into the gap. As many as it has slots for are stored there; then what is left of it is closed, or the other pieces are let in: the
@@ -45,18 +28,14 @@ fn fill_gap(ext: &mut [u32], gap: Gap, new: &[u32], s: usize, k: usize) -> usize
     ensures { Becomes (length ext.old) (spliced gap.from (slots_from new.now s (k - s))
         (without gap.from gap.to (slots_from ext.old 0 gap.used))) ext.new result }
 {
-    let fits = smaller(k - s, gap.to - gap.from);
+    let fits = (k - s).min(gap.to - gap.from);
     let more = k - s - fits;
     let mid = gap.from + fits;
-    let at = 3 * gap.from;
-    let to = 3 * mid;
-    let first = 3 * s;
     let next = 3 * (s + fits);
-    let last = 3 * k;
-    words::put_words(&mut ext[at..to], &new[first..next]);
+    words::put_words(&mut ext[3 * gap.from..3 * mid], &new[3 * s..next]);
     map::close(ext, gap.used, mid, gap.to);
     let used = gap.used - (gap.to - mid);
-    map::insert(ext, used, mid, &new[next..last], more);
+    map::insert(ext, used, mid, &new[next..3 * k], more);
     used + more
 }
 
@@ -67,8 +46,8 @@ pub fn put_pieces(ext: &mut [u32], gap: Gap, joined: bool, new: &[u32], k: usize
         (without gap.from gap.to (slots_from ext.old 0 gap.used))) ext.new result }
 {
     if joined {
-        let c = new[2];
-        lengthen(ext, gap.used, gap.from, c);
+        let first = words::slot_at(new, 0);
+        lengthen(ext, gap.used, gap.from, first.count);
         return fill_gap(ext, gap, new, 1, k);
     }
     fill_gap(ext, gap, new, 0, k)

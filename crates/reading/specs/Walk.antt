@@ -1,6 +1,6 @@
 -- A walk over the slots that finds what a read answers: the pieces of one slot, how far the answer then reaches, and that the pieces of
 -- the slots, one after the other, are the clipped extents with the holes between them.
-use Rattle.std.specs.Prelude.{ℕ, zero, suc, ◌+◌, ◌-◌, ◌≤◌, ◌<◌, min, max, ◌≡◌, refl, cond, ltb, length}
+use Rattle.std.specs.Prelude.{ℕ, zero, suc, ◌+◌, ◌-◌, ◌*◌, ◌≤◌, ◌<◌, min, max, ◌≡◌, refl, cond, ltb, length}
 use Rattle.std.proofs.Common.{sym, ap₂, ◌∙◌, lt-ltb, le-ltb, length-append}
 use Rattle.std.proofs.Math.Path.{ap}
 use mathlib.Core.List.{List, [], ◌∷◌, ◌++◌}
@@ -14,13 +14,14 @@ use Rattle.rules.specs.Read.{with_hole, with_holes, found}
 use Rattle.rules.specs.declared.Extent.{Extent}
 use Rattle.laws.specs.Bools.{cases}
 use Rattle.laws.specs.Unique.{extent_path}
-use Rattle.laws.specs.Cut.{below, from, below_none, below-part, below_all, from-none, from-part, from_all}
-use Rattle.laws.specs.Slots.{slots-first}
+use Rattle.laws.specs.Cut.{below, from, cut, below_none, below-part, below_all, from-none, from-part, from_all}
+use Rattle.laws.specs.Slots.{slots-first, slots_length}
+use Rattle.laws.specs.Counts.{cut-bound}
 use Rattle.laws.specs.Sound.{Shaped, SoundState}
 use Rattle.laws.specs.Read.{found-window}
 use Rattle.laws.specs.States.{device-lines, extents-in_use, state-storable, table-lines}
-use Rattle.map.specs.Sound.{SoundMap, sound-piece, sound-order}
-use Rattle.map.specs.Halved.{ends_by, from-there}
+use Rattle.map.specs.Sound.{SoundMap, Piece, sound-piece, sound-order}
+use Rattle.map.specs.Halved.{ends_by, ends-first, from-there}
 
 -- the extents from logical page l up to e, each clipped, and each maximal hole
 abbrev pub between : ℕ → ℕ → List Extent → List Extent
@@ -89,30 +90,6 @@ pub tells-some : (pos e : ℕ) (x : Extent) → pos < end x → tells pos e x �
 unfolding tells
 tells-some pos e x h = rw (lt-ltb pos (end x) h)
 
--- how many there are
-pub tells-zero : (pos e : ℕ) (x : Extent) → end x ≤ pos → 0 ≡ length (tells pos e x)
-tells-zero pos e x h = sym (ap length (tells_none pos e x h))
-
-pub tells-two : (pos e : ℕ) (x : Extent) → pos < end x → pos < x.logical → 2 ≡ length (tells pos e x)
-tells-two pos e x h s = sym (ap length (tells-some pos e x h ∙ some-hole pos (starts pos x) (clipped pos e x ∷ []) (omega arith)))
-
-pub tells-one : (pos e : ℕ) (x : Extent) → pos < end x → x.logical ≤ pos → 1 ≡ length (tells pos e x)
-tells-one pos e x h s = sym (ap length (tells-some pos e x h ∙ no-hole pos (starts pos x) (clipped pos e x ∷ []) (omega arith)))
-
-pub tells_le : (pos e : ℕ) (x : Extent) → length (tells pos e x) ≤ 2
-tells_le pos e x =
-    by_cases (dec_lt pos (end x))
-    (λ h. by_cases (dec_lt pos x.logical)
-    (λ s. omega (arith, tells-two pos e x h s))
-    (λ s. omega (arith, tells-one pos e x h (omega arith))))
-    (λ h. omega (arith, tells-zero pos e x (omega arith)))
-
-pub hole-one : (a b : ℕ) → a < b → 1 ≡ length (with_hole a b [])
-hole-one a b h = sym (ap length (some-hole a b [] h))
-
-pub hole-zero : (a b : ℕ) → b ≤ a → 0 ≡ length (with_hole a b [])
-hole-zero a b h = sym (ap length (no-hole a b [] h))
-
 -- its part from pos on
 abbrev rest : ℕ → Extent → Extent
 rest pos x = extent (starts pos x) (x.physical + (starts pos x - x.logical)) (end x - starts pos x)
@@ -161,57 +138,133 @@ unfolding slots_from below
 below-slots e ws j zero h = refl
 below-slots e ws j (suc m) h = below_none e (slot ws j) (slots_from ws (j + 1) m) (h (omega arith))
 
-module _ (ws : List ℕ) (u pos e i : ℕ) (sound : SoundMap (slots_from ws 0 u)) (h : i < u) (p : pos ≤ e) where
-  some : (j : ℕ) → j < u → 0 < (slot ws j).count
-  some j q = (sound-piece ws u sound j q).some
-
-  -- slot i is the first that is left
-  pub walk_end : e ≤ starts pos (slot ws i) → between pos e (slots_from ws i (u - i)) ≡ with_hole pos e []
-  walk_end s =
-      ap (between pos e) (slots-first ws i u h)
-      ∙ between-end pos e (slot ws i) (slots_from ws (i + 1) (u - (i + 1))) (some i h) p s
-
-  pub walk_more : starts pos (slot ws i) < e
-      → between pos e (slots_from ws i (u - i)) ≡ tells pos e (slot ws i) ++ between (reaches pos e (slot ws i)) e (slots_from ws (i + 1) (u - (i + 1)))
-  walk_more s =
-      ap (between pos e) (slots-first ws i u h)
-      ∙ between_more pos e (slot ws i) (slots_from ws (i + 1) (u - (i + 1))) (some i h) p s
-      (λ t. from-slots (reaches pos e (slot ws i)) ws (i + 1) (u - (i + 1))
-      (λ m. (omega (arith, sound-order ws u sound i (i + 1) (omega arith) (omega arith), some i h), some (i + 1) (omega arith))))
-      (λ t. below-slots e ws (i + 1) (u - (i + 1)) (λ m. omega (arith, sound-order ws u sound i (i + 1) (omega arith) (omega arith))))
-
--- no slot is left
-pub walk-over : (ws : List ℕ) (u pos e i : ℕ) → i ≡ u → between pos e (slots_from ws i (u - i)) ≡ with_hole pos e []
-unfolding slots_from
-walk-over ws u pos e i h =
-    let z : u - i ≡ 0 = omega arith in
-    ap (λ (m : ℕ). between pos e (slots_from ws i m)) z ∙ between_none pos e
+-- at slot i of u, the answer at pos: the slots that are left have pages, each ends before the next begins, and slot i ends after pos
+pub record Walks (ws : List ℕ) (u i pos e : ℕ) : Type 0 where
+  pub fits : 3 * u ≤ length ws
+  pub passed : i ≤ u
+  pub order : pos ≤ e
+  pub pieces : (j : ℕ) → i ≤ j → j < u → Piece (slot ws j)
+  pub rise : (j : ℕ) → i ≤ j → j + 1 < u → end (slot ws j) ≤ (slot ws (j + 1)).logical
+  pub ahead : i < u → pos < end (slot ws i)
 
 -- a read may start at the first slot that ends after l
 pub walk_start : (l e i : ℕ) (ws : List ℕ) (u : ℕ) → SoundMap (slots_from ws 0 u) → i ≡ ends_by l (slots_from ws 0 u)
     → between l e (slots_from ws 0 u) ≡ between l e (slots_from ws i (u - i))
 walk_start l e i ws u s h = ap (λ (es : List Extent). with_holes l e (below e es)) (from-there ws u l i s h)
 
--- ---- how many pieces it finds: k so far
+pub walks-start : (ws : List ℕ) (u i l e : ℕ) → 3 * u ≤ length ws → l ≤ e → SoundMap (slots_from ws 0 u) → i ≡ ends_by l (slots_from ws 0 u) → Walks ws u i l e
+walks-start ws u i l e f h s g =
+    let k = ends-first ws u l s i g in
+    record {
+      fits = f;
+      passed = omega (arith, k.inside);
+      order = h;
+      pieces = λ j a t. sound-piece ws u s j t;
+      rise = λ j a t. sound-order ws u s j (j + 1) (omega arith) t;
+      ahead = λ t. k.high i (omega arith) t;
+    }
 
-pub count-start : (l e i : ℕ) (ws : List ℕ) (u : ℕ) → SoundMap (slots_from ws 0 u) → i ≡ ends_by l (slots_from ws 0 u)
-    → length (between l e (slots_from ws 0 u)) ≡ 0 + length (between l e (slots_from ws i (u - i)))
-count-start l e i ws u s h = ap length (walk_start l e i ws u s h) ∙ omega arith
+-- where the answer has come to e, nothing is left
+between-over : (e : ℕ) (es : List Extent) → between e e es ≡ []
+unfolding with_holes
+between-over e es = ap (with_holes e e) (below-from e es) ∙ no-hole e e [] (omega arith)
 
-pub count-more : (ws : List ℕ) (u pos e i k j total : ℕ) → SoundMap (slots_from ws 0 u) → i < u → pos ≤ e → starts pos (slot ws i) < e
-    → total ≡ k + length (between pos e (slots_from ws i (u - i))) → j ≡ length (tells pos e (slot ws i))
-    → total ≡ k + j + length (between (reaches pos e (slot ws i)) e (slots_from ws (i + 1) (u - (i + 1))))
-count-more ws u pos e i k j total sound h p s t g =
-    let rest = between (reaches pos e (slot ws i)) e (slots_from ws (i + 1) (u - (i + 1))) in
-    omega (arith, ap length (walk_more ws u pos e i sound h p s), length-append (tells pos e (slot ws i)) rest)
+module _ (ws : List ℕ) (u i pos e : ℕ) (h : Walks ws u i pos e) where
+  abbrev left : List Extent
+  left = slots_from ws i (u - i)
 
--- the last hole: no slot is left, or the next starts at e or later
-pub count-end : (ws : List ℕ) (u pos e i k j total : ℕ) → between pos e (slots_from ws i (u - i)) ≡ with_hole pos e []
-    → total ≡ k + length (between pos e (slots_from ws i (u - i))) → j ≡ length (with_hole pos e []) → k + j ≡ total
-count-end ws u pos e i k j total w t g = omega (arith, ap length w)
+  pub walks-over : e ≤ pos → between pos e left ≡ []
+  walks-over t =
+      let at : pos ≡ e = omega (arith, h.order) in
+      ap (λ (k : ℕ). between k e left) at ∙ between-over e left
 
-pub hole_le : (a b : ℕ) → length (with_hole a b []) ≤ 1
-hole_le a b = by_cases (dec_lt a b) (λ h. omega (arith, hole-one a b h)) (λ h. omega (arith, hole-zero a b (omega arith)))
+  no_slot : i ≡ u → between pos e left ≡ with_hole pos e []
+  unfolding slots_from
+  no_slot k = let z : u - i ≡ 0 = omega arith in ap (λ (m : ℕ). between pos e (slots_from ws i m)) z ∙ between_none pos e
+
+  -- no slot is left that starts before e
+  last_hole : pos < e → (i < u → e ≤ (slot ws i).logical) → between pos e left ≡ extent pos none (e - pos) ∷ between e e left
+  last_hole t g =
+      by_cases (dec_lt i u)
+      (λ k. ap (between pos e) (slots-first ws i u k)
+      ∙ between-end pos e (slot ws i) (slots_from ws (i + 1) (u - (i + 1))) (h.pieces i (omega arith) k).some h.order (omega (arith, g k)))
+      (λ k. no_slot (omega (arith, h.passed)))
+      ∙ some-hole pos e [] t
+      ∙ ap (λ (es : List Extent). extent pos none (e - pos) ∷ es) (sym (between-over e left))
+
+  module _ (k : i < u) where
+    abbrev x : Extent
+    x = slot ws i
+
+    abbrev behind : ℕ → List Extent
+    behind reach = between reach e (slots_from ws (i + 1) (u - (i + 1)))
+
+    more : (p : ℕ) → p ≤ e → starts p x < e → between p e left ≡ tells p e x ++ behind (reaches p e x)
+    more p t s =
+        ap (between p e) (slots-first ws i u k)
+        ∙ between_more p e x (slots_from ws (i + 1) (u - (i + 1))) (h.pieces i (omega arith) k).some t s
+        (λ q. from-slots (reaches p e x) ws (i + 1) (u - (i + 1))
+        (λ m. (omega (arith, h.rise i (omega arith) (omega arith), (h.pieces i (omega arith) k).some), (h.pieces (i + 1) (omega arith) (omega arith)).some)))
+        (λ q. below-slots e ws (i + 1) (u - (i + 1)) (λ m. omega (arith, h.rise i (omega arith) (omega arith))))
+
+    -- slot i has page p
+    holding : (p : ℕ) → x.logical ≤ p → p < end x → p < e
+        → between p e left ≡ extent p (x.physical + (p - x.logical)) (min (end x) e - p) ∷ behind (min (end x) e)
+    holding p s t q =
+        let first : starts p x ≡ p = omega arith in
+        let reach : reaches p e x ≡ min (end x) e = omega arith in
+        more p (omega arith) (omega arith)
+        ∙ ap (λ (ys : List Extent). ys ++ behind (reaches p e x)) (tells-some p e x t ∙ no-hole p (starts p x) (clipped p e x ∷ []) (omega arith))
+        ∙ ap₂ (λ (a b : ℕ). extent a (x.physical + (a - x.logical)) (b - a) ∷ behind b) first reach
+
+    -- it starts behind pos
+    hole_first : pos < x.logical → x.logical < e → between pos e left ≡ extent pos none (x.logical - pos) ∷ between x.logical e left
+    hole_first s t =
+        let some : 0 < x.count = (h.pieces i (omega arith) k).some in
+        let first : starts pos x ≡ x.logical = omega arith in
+        let reach : reaches pos e x ≡ min (end x) e = omega arith in
+        more pos h.order (omega arith)
+        ∙ ap (λ (ys : List Extent). ys ++ behind (reaches pos e x)) (tells-some pos e x (omega arith) ∙ some-hole pos (starts pos x) (clipped pos e x ∷ []) (omega arith))
+        ∙ ap₂ (λ (a b : ℕ). extent pos none (a - pos) ∷ extent a (x.physical + (a - x.logical)) (b - a) ∷ behind b) first reach
+        ∙ ap (λ (ys : List Extent). extent pos none (x.logical - pos) ∷ ys) (sym (holding x.logical (omega arith) (omega arith) t))
+
+  -- the piece of slot i, which starts at pos or before, and reaches as far as it and e do
+  pub walks-piece : i < u → (x : Extent) (reach : ℕ) → x ≡ slot ws i → reach ≡ min (end x) e → x.logical ≤ pos → pos < e
+      → between pos e left ≡ extent pos (x.physical + (pos - x.logical)) (reach - pos) ∷ between reach e (slots_from ws (i + 1) (u - (i + 1)))
+  walks-piece k x reach g r s t = rw (r, g) (holding k pos (rw g at s) (h.ahead k) t)
+
+  -- the hole up to where the next slot starts, or e
+  pub walks-hole : (stop : ℕ) → pos < stop → stop ≤ e → (i < u → stop ≤ (slot ws i).logical) → (stop < e → (i < u) × (stop ≡ (slot ws i).logical))
+      → between pos e left ≡ extent pos none (stop - pos) ∷ between stop e left
+  walks-hole stop a b c d =
+      by_cases (dec_lt stop e)
+      (λ t. let g = d t in rw g.1 (hole_first g.0 (omega arith) (omega arith)))
+      (λ t. let at : stop ≡ e = omega arith in rw at (last_hole (omega arith) (λ k. omega (arith, c k))))
+
+-- ---- how many there are
+
+hole_most : (a b : ℕ) (xs : List Extent) → length (with_hole a b xs) ≤ length xs + 1
+hole_most a b xs = by_cases (dec_lt a b) (λ h. omega (arith, ap length (some-hole a b xs h))) (λ h. omega (arith, ap length (no-hole a b xs (omega arith))))
+
+holes_most : (a b : ℕ) (xs : List Extent) → length (with_holes a b xs) ≤ 2 * length xs + 1
+unfolding with_holes
+holes_most a b [] = hole_most a b []
+holes_most a b (x ∷ xs) = omega (arith, hole_most a x.logical (x ∷ with_holes (end x) b xs), holes_most (end x) b xs)
+
+pub between-most : (l e : ℕ) (ws : List ℕ) (i u : ℕ) → length (between l e (slots_from ws i u)) ≤ 2 * u + 5
+unfolding cut
+between-most l e ws i u =
+    let es = slots_from ws i u in
+    let on = from l es in
+    omega (
+      arith,
+      holes_most l e (below e on),
+      cut-bound e e on (omega arith),
+      length-append (below e on) (from e on),
+      cut-bound l l es (omega arith),
+      length-append (below l es) on,
+      slots_length ws i u,
+    )
 
 -- ---- of a state
 

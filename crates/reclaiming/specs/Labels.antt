@@ -1,9 +1,10 @@
 -- Labels copied one by one into the old reserve, and the victim's erased.
-use Rattle.std.specs.Prelude.{◌≡◌, ℕ, zero, suc, ◌+◌, ◌-◌, ◌*◌, ◌<◌, ◌≤◌, List, [], ◌∷◌, ◌++◌, length, get_or, take, set, replicate, slice_index, slice_index_or, slice_set, refl}
+use Rattle.std.specs.Prelude.{◌≡◌, ℕ, suc, ◌+◌, ◌-◌, ◌*◌, ◌<◌, ◌≤◌, List, [], ◌∷◌, ◌++◌, length, get_or, take, set, replicate, slice_index, slice_index_or, slice_set, refl}
 use Rattle.std.proofs.Common.{sym, ap, ◌∙◌, arith, add-one, take-suc, get_or-take, length-take-le}
 use Rattle.std.proofs.Math.Logic.{by_cases}
 use Rattle.std.proofs.Math.Decide.{dec_lt}
 use borrow.Rule.Slice.PartMut.{mid_of, put_mid}
+use Rattle.std.proofs.lemmas.List.{get_or_default}
 use Rattle.std.proofs.lemmas.List.Edits.{sets}
 use Rattle.rules.specs.Extents.{none}
 use Rattle.rules.specs.Reclaim.{copied}
@@ -19,11 +20,6 @@ pub record Copied (n r v : ℕ) (ps : List ℕ) (k size : ℕ) : Type 0 where
   pub from : v * n + n ≤ size
   pub low : (i : ℕ) → i < k → v * n ≤ slice_index ps i
   pub high : (i : ℕ) → i < k → slice_index ps i < v * n + n
-
-word_any : (xs : List ℕ) (i a b : ℕ) → i < length xs → slice_index_or xs i a ≡ slice_index_or xs i b
-word_any [] i a b h = absurd (omega arith)
-word_any (x ∷ xs) zero a b h = refl
-word_any (x ∷ xs) (suc i) a b h = word_any xs i a b (omega arith)
 
 copies-more : (ps : List ℕ) (p a : ℕ) (xs : List ℕ) → copies_into none a (ps ++ p ∷ []) xs ≡ slice_set (copies_into none a ps xs) (a + length ps) (slice_index_or (copies_into none a ps xs) p none)
 unfolding copies_into
@@ -42,7 +38,7 @@ pub labels_next : (a : ℕ) (ps xs xs' : List ℕ) (i : ℕ) → i < length ps �
 labels_next a ps xs xs' i h l e =
     let p = get_or ps i 0 in
     let size : a + length (take i ps) ≡ a + i = ap (λ (k : ℕ). a + k) (length-take-le i ps (omega arith)) in
-    ap (set xs' (a + i)) (word_any xs' p 0 none l)
+    ap (set xs' (a + i)) (get_or_default xs' p 0 none l)
     ∙ ap (λ (ys : List ℕ). set ys (a + i) (slice_index_or ys p none)) e
     ∙ sym (ap (λ (k : ℕ). copies_into none a (take k ps) xs) (add-one i)
     ∙ ap (λ (qs : List ℕ). copies_into none a qs xs) (take-suc ps i 0 h)

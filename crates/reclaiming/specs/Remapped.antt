@@ -57,18 +57,9 @@ pub joinable_second : (n : ℕ) (a b c : Extent) → b.logical ≡ c.logical →
 unfolding joinable
 joinable_second n a b c l p = rw (l, p)
 
--- ---- tested one by one
-
-module _ (n : ℕ) (a b : Extent) where
-  pub other_block : (a.physical / n ≢ b.physical / n) → false ≡ joinable n a b
-  other_block f = sym (never (joinable n a b) (λ t. f (joinable-true n a b t).block))
-
-  pub other-logical : (b.logical ≢ a.logical + a.count) → false ≡ joinable n a b
-  other-logical f = sym (never (joinable n a b) (λ t. f (joinable-true n a b t).logical))
-
-  pub same-physical : a.physical / n ≡ b.physical / n → b.logical ≡ a.logical + a.count → (b.physical == a.physical + a.count) ≡ joinable n a b
-  unfolding joinable
-  same-physical d l = rw (eq-eqb (a.physical / n) (b.physical / n) d, eq-eqb b.logical (a.logical + a.count) l)
+-- extents of different blocks are not joinable
+pub other_block : (n : ℕ) (a b : Extent) → (a.physical / n ≢ b.physical / n) → false ≡ joinable n a b
+other_block n a b f = sym (never (joinable n a b) (λ t. f (joinable-true n a b t).block))
 
 -- two joined end where the second ended
 pub joinable-both : (n : ℕ) (a b c : Extent) → joinable n a b ≡ true → joinable n (extent a.logical a.physical (a.count + b.count)) c ≡ joinable n b c

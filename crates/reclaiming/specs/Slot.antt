@@ -1,7 +1,7 @@
 -- Slots moved one by one: each pushed behind the slots that stand already, and joined with the last of them where it can be.
 use Rattle.std.specs.Prelude.{◌≡◌, ℕ, zero, suc, ◌+◌, ◌-◌, ◌*◌, ◌<◌, ◌≤◌}
-use Rattle.std.specs.Prelude.{Bool, true, false, ◌&&◌, List, [], ◌∷◌, ◌++◌, map, length, set, replicate, ◌≢◌, nat_lt, slice_index, slice_index_or, slice_set, refl}
-use Rattle.std.proofs.Common.{sym, ap, ap₂, ◌∙◌, subst, append_assoc, arith, lt-ltb, le-ltb, ltb-true, get_or-set_same, get_or-set_other}
+use Rattle.std.specs.Prelude.{Bool, true, false, ◌&&◌, List, [], ◌∷◌, ◌++◌, map, length, replicate, nat_lt, slice_index, refl}
+use Rattle.std.proofs.Common.{sym, ap, ap₂, ◌∙◌, subst, append_assoc, arith, lt-ltb, le-ltb, ltb-true}
 use Rattle.std.proofs.lemmas.List.{map-append, length-replicate, get_or-replicate}
 use Rattle.std.proofs.Math.Logic.{by_cases}
 use Rattle.std.proofs.Math.Decide.{dec_lt}
@@ -73,24 +73,23 @@ joins-last n ws w x e =
     let s = and_split (nat_lt 0 w) (joinable n (slot ws (w - 1)) x) e in
     record { some = ltb-true 0 w s.0; meets = s.1; logical = sym (joinable-true n (slot ws (w - 1)) x s.1).logical }
 
-pub pushed_joined : (n : ℕ) (ws : List ℕ) (w : ℕ) (x : Extent) → 3 * w + 2 < length ws → joins_last n ws w x ≡ true
-    → Pushed n ws w x (slice_set ws (3 * (w - 1) + 2) (slice_index ws (3 * (w - 1) + 2) + x.count)) w
-pushed_joined n ws w x l t =
+-- it is joined: the last slot grows by its pages
+pub pushed_joined : (n : ℕ) (ws ws' : List ℕ) (w : ℕ) (x a : Extent) → 3 * w + 2 < length ws → joins_last n ws w x ≡ true → a ≡ slot ws (w - 1)
+    → ws' ≡ put_slot ws (w - 1) (extent a.logical a.physical (a.count + x.count)) → Pushed n ws w x ws' w
+pushed_joined n ws ws' w x a l t is e =
     let last = joins-last n ws w x t in
     let j = w - 1 in
-    let a = slot ws j in
-    let ws' = set ws (3 * j + 2) (a.count + x.count) in
+    let y = extent a.logical a.physical (a.count + x.count) in
     let back : w ≡ j + 1 = omega (arith, last.some) in
-    let other : (k : ℕ) → (k ≢ 3 * j + 2) → slice_index ws' k ≡ slice_index_or ws k 0 = λ k f. get_or-set_other ws (3 * j + 2) k (a.count + x.count) 0 f in
-    record {
-      done = ap (slots_from ws' 0) back ∙ slots-more ws' 0 j j (omega arith)
-          ∙ ap₂ (λ (es : List Extent) (y : Extent). es ++ y ∷ [])
-          (slots_same ws' ws 0 j (λ k p q. other k (omega arith)))
-          (extent_path (slot ws' j) (extent a.logical a.physical (a.count + x.count))
-          (other (3 * j) (omega arith)) (other (3 * j + 1) (omega arith)) (get_or-set_same ws (3 * j + 2) (a.count + x.count) 0 (omega (arith, last.some))))
-          ∙ sym (ap (λ (es : List Extent). push n es x) (ap (slots_from ws 0) back ∙ slots-more ws 0 j j (omega arith)) ∙ push-last n (slots_from ws 0 j) a x
-          ∙ ap (λ (es : List Extent). slots_from ws 0 j ++ es) (join-joined n a x [] last.meets));
-      rest = λ k p. other k (omega (arith, last.some));
+    let meets : joinable n a x ≡ true = ap (λ (z : Extent). joinable n z x) is ∙ last.meets in
+    subst (λ (zs : List ℕ). Pushed n ws w x zs w) (sym e) record {
+      done = ap (slots_from (put_slot ws j y) 0) back ∙ slots-more (put_slot ws j y) 0 j j (omega arith)
+          ∙ ap₂ (λ (es : List Extent) (z : Extent). es ++ z ∷ [])
+          (slots_same (put_slot ws j y) ws 0 j (λ k p q. put_slot_else ws j y k (λ b c. omega arith))) (put_slot_here ws j y (omega arith))
+          ∙ sym (ap (λ (es : List Extent). push n es x) (ap (slots_from ws 0) back ∙ slots-more ws 0 j j (omega arith)
+          ∙ ap (λ (z : Extent). slots_from ws 0 j ++ z ∷ []) (sym is)) ∙ push-last n (slots_from ws 0 j) a x
+          ∙ ap (λ (es : List Extent). slots_from ws 0 j ++ es) (join-joined n a x [] meets));
+      rest = λ k p. put_slot_else ws j y k (λ b c. omega (arith, last.some));
       few = omega arith;
     }
 

@@ -18,18 +18,16 @@ ghost use Rattle.reclaiming.specs.Emptied.{emptied};
 
 use rules::{BlockRecord, Extent};
 
-const NONE: u32 = 4294967295;
+// The label of an erased page.
+const NONE: u32 = u32::MAX;
 
 // The labels of the first k pages listed, copied one after the other.
 fn copy_labels(spare: &mut [u32], out: &[u32], k: usize, to: usize)
     requires { (k ≤ length out.now) × (to + k ≤ length spare.old) × ((i : ℕ) → i < k → slice_index out.now i < length spare.old) }
     ensures { spare.new ≡ copies_into none to (take k out.now) spare.old }
 {
-    let mut i: usize = 0;
-    while i < k {
-        let label = spare[out[i] as usize];
-        spare[to + i] = label;
-        i += 1;
+    for (i, page) in out[..k].iter().enumerate() {
+        spare[to + i] = spare[*page as usize];
     }
 }
 
@@ -42,7 +40,7 @@ pub fn move_labels(spare: &mut [u32], out: &[u32], k: usize, n: u32, r: u32, v: 
     let to = (r as usize) * pages;
     let from = (v as usize) * pages;
     copy_labels(spare, out, k, to);
-    words::fill_with(&mut spare[from..from + pages], NONE);
+    spare[from..from + pages].fill(NONE);
 }
 
 // The old reserve has the victim's valid pages and nothing else, and the victim nothing.
@@ -51,10 +49,7 @@ pub fn move_blocks(blk: &mut [u32], r: u32, v: u32)
     ensures { blk.new ≡ emptied r v blk.old }
 {
     let valid = words::valid_of(blk, v as usize);
-    let full = BlockRecord {
-        fill: valid,
-        valid: valid,
-    };
+    let full = BlockRecord { fill: valid, valid };
     let empty = BlockRecord { fill: 0, valid: 0 };
     words::put_block(blk, r as usize, full);
     words::put_block(blk, v as usize, empty);
@@ -65,13 +60,9 @@ fn joins(a: Extent, b: Extent, n: u32) -> bool
     requires { 1 ≤ n }
     ensures { result ≡ joinable n a b }
 {
-    if a.physical / n != b.physical / n {
-        return false;
-    }
-    if (b.logical as u64) != (a.logical as u64) + (a.count as u64) {
-        return false;
-    }
-    (b.physical as u64) == (a.physical as u64) + (a.count as u64)
+    a.physical / n == b.physical / n
+        && (b.logical as u64) == (a.logical as u64) + (a.count as u64)
+        && (b.physical as u64) == (a.physical as u64) + (a.count as u64)
 }
 
 // Extent x is joinable with the last of the first w slots.
@@ -79,10 +70,7 @@ fn joins_last(ext: &[u32], w: usize, x: Extent, n: u32) -> bool
     requires { (1 ≤ n) × (3 * w ≤ length ext.now) }
     ensures { result ≡ joins_last n ext.now w x }
 {
-    if w == 0 {
-        return false;
-    }
-    joins(words::slot_at(ext, w - 1), x, n)
+    w > 0 && joins(words::slot_at(ext, w - 1), x, n)
 }
 
 // Extent x pushed behind the first w slots: how many stand then.
@@ -91,8 +79,10 @@ fn push_slot(ext: &mut [u32], w: usize, x: Extent, n: u32) -> usize
     ensures { Pushed n ext.old w x ext.new result }
 {
     if joins_last(ext, w, x, n) {
-        let at = 3 * (w - 1) + 2;
-        ext[at] += x.count;
+        let at = w - 1;
+        let last = words::slot_at(ext, at);
+        let count = last.count + x.count;
+        words::put_slot(ext, at, Extent { count, ..last });
         return w;
     }
     words::put_slot(ext, w, x);
@@ -106,20 +96,14 @@ fn take_slot(ext: &mut [u32], w: usize, i: usize, n: u32, v: u32, r: u32, ranks:
     requires movable { Movable n v r ranks.now × Apart n ext.old w (slot ext.old i) }
     ensures { Pushed n ext.old w (move (ranked_page n ranks.now v r) (slot ext.old i)) ext.new result }
 {
-    let at = 3 * i;
-    let o = std::num::wrapping_sub_u32(ext[at + 1], v * n);
+    let e = words::slot_at(ext, i);
+    let o = e.physical.wrapping_sub(v * n);
     if o < n {
-        let p = r * n + ranks[o as usize];
-        let x = Extent {
-            logical: ext[at],
-            physical: p,
-            count: ext[at + 2],
-        };
-        return push_slot(ext, w, x, n);
+        let physical = r * n + ranks[o as usize];
+        return push_slot(ext, w, Extent { physical, ..e }, n);
     }
     if w < i {
-        let x = words::slot_at(ext, i);
-        words::put_slot(ext, w, x);
+        words::put_slot(ext, w, e);
     }
     w + 1
 }
@@ -135,7 +119,8 @@ fn stay(ext: &[u32], w: usize, used: usize, i: usize, n: u32, v: u32) -> usize
     choosing::passed_over(ext, used, i, n, v)
 }
 
-// The map afterwards, each slot taken from the left, and zeros where slots stand no longer: how many extents it has.
+// The map afterwards, each slot taken from the left, and zeros where slots stand no longer: how many extents it has. No `for`: i goes on by one slot, or by as
+// many as stay.
 pub fn move_map(ext: &mut [u32], used: usize, n: u32, v: u32, r: u32, ranks: &[u32]) -> usize
     requires { Moves n v r ext.old used ranks.now }
     ensures { (result ≡ length (remapped n v r (slots_from ext.old 0 used)))
@@ -153,6 +138,6 @@ pub fn move_map(ext: &mut [u32], used: usize, n: u32, v: u32, r: u32, ranks: &[u
             i += 1;
         }
     }
-    words::fill_with(&mut ext[3 * w..3 * used], 0);
+    ext[3 * w..3 * used].fill(0);
     w
 }

@@ -12,7 +12,9 @@ use Rattle.rules.specs.Extents.{flat}
 use Rattle.rules.specs.Lent.{Lent, lent}
 use Rattle.rules.specs.Answers.{listed}
 use Rattle.rules.specs.Calls.{Call, call}
+use Rattle.rules.specs.declared.Refusal.{Refusal}
 use Rattle.rules.specs.declared.Listed.{Listed}
+use Rattle.std.specs.Prelude.{Result}
 use Rattle.demands.specs.Demand1.{Answers}
 use Rattle.demands.proofs.Proved.{demand_1}
 use Rattle.layer.specs.Told.{listed-one}
@@ -36,18 +38,18 @@ module _ (κs : Lfts 4) (a : Args over-records.signature κs) where
   abbrev pub records-from : Lent
   records-from = lent a.0 (flat a.1.0.now) a.1.1.0.now a.1.1.1.0.now
 
-  abbrev Post : Listed → AtExit over-records.ended κs → Type 0
-  Post r s = leaving listed record_words r s ≡ call reads-records records-from
+  abbrev Post : Result Listed Refusal → AtExit over-records.ended κs → Type 0
+  Post r s = leaving (listed a.0) record_words r s ≡ call reads-records records-from
 
   module _ (w : World) where
     pub asks-is : (over-records.clauses w.𝓛 w.𝓜.mem w.𝓡.run κs a).requires tt ≡ emp w.𝓤
     asks-is = refl
 
-    pub contract_is : (r : Listed) (s : AtExit over-records.ended κs)
+    pub contract_is : (r : Result Listed Refusal) (s : AtExit over-records.ended κs)
         → (over-records.clauses w.𝓛 w.𝓜.mem w.𝓡.run κs a).ensures tt r s ≡ fact w.𝓤 (Post r s)
     contract_is r s = refl
 
-  pub read-records_promises : Promises (Unit {0}) Post listed record_words (Answers reads-records records-from)
+  pub read-records_promises : Promises (Unit {0}) Post (listed a.0) record_words (Answers reads-records records-from)
   read-records_promises =
-      by_rule Post listed record_words (Answers reads-records records-from) (call reads-records records-from) (demand_1.calls reads-records records-from)
-      (λ r s p. p) (λ r r' s s' p q. listed-one r r')
+      by_rule Post (listed a.0) record_words (Answers reads-records records-from) (call reads-records records-from) (demand_1.calls reads-records records-from)
+      (λ r s p. p) (λ r r' s s' p q. listed-one _ r r')

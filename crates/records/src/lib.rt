@@ -11,6 +11,9 @@ ghost use Rattle.records.specs.Laid.{put, laid, First};
 
 use rules::{Extent, Head, Listed, Refusal};
 
+// 01, Numbers: the most slots that a state can have.
+const MOST_SLOTS: usize = 8192;
+
 // The three words of slot i are the extent's numbers. Where there is no such slot, nothing changes.
 fn put_extent(words: &mut [u32], i: usize, e: Extent)
     ensures { words.new ≡ put words.old i e }
@@ -24,10 +27,8 @@ fn put_extent(words: &mut [u32], i: usize, e: Extent)
 fn flatten(recs: &[Extent], words: &mut [u32])
     ensures { words.new ≡ laid recs.now words.old }
 {
-    let mut i = 0;
-    while i < recs.len() {
-        put_extent(words, i, recs[i]);
-        i = i + 1;
+    for (i, e) in recs.iter().enumerate() {
+        put_extent(words, i, *e);
     }
 }
 
@@ -42,17 +43,16 @@ fn read_words(
     l: u32,
     n: u32,
     out: &mut [u32],
-) -> Listed
+) -> Result<Listed, Refusal>
     requires { 3 * 8192 ≤ length words.now }
     ensures { (ext : List ℕ) → First words.now k ext
-        → outcome (listed result) ext blk.now spare.now out.new
+        → outcome (listed h result) ext blk.now spare.now out.new
         ≡ call (Call.read l n out.old) (lent h ext blk.now spare.now) }
 {
-    if 8192 < k {
-        return Listed::Refused(Refusal::Shape, h);
+    if k > MOST_SLOTS {
+        return Err(Refusal::Shape);
     }
-    let e = 3 * k;
-    layer::read(h, &words[..e], blk, spare, l, n, out)
+    layer::read(h, &words[..3 * k], blk, spare, l, n, out)
 }
 
 // Reads over exactly M extents as over their flat words: the same answers, and the same refusals in the same order.
@@ -64,11 +64,11 @@ pub fn read_records(
     l: u32,
     n: u32,
     out: &mut [u32],
-) -> Listed
-    ensures { outcome (listed result) (flat recs.now) blk.now spare.now out.new
+) -> Result<Listed, Refusal>
+    ensures { outcome (listed h result) (flat recs.now) blk.now spare.now out.new
         ≡ call (Call.read l n out.old) (lent h (flat recs.now) blk.now spare.now) }
 {
-    let mut words = [0u32; 24576];
+    let mut words = [0; 3 * MOST_SLOTS];
     flatten(recs, &mut words);
     read_words(h, &words, recs.len(), blk, spare, l, n, out)
 }

@@ -1,6 +1,6 @@
 -- From verdicts to answers, once for all calls: a call that both verdicts accept is ready; what it then leaves is what the rules give; and
 -- what either verdict refuses is refused.
-use Rattle.std.specs.Prelude.{ℕ, true, ◌≡◌, refl, List, length}
+use Rattle.std.specs.Prelude.{ℕ, true, ◌≡◌, refl, List, length, Result, Ok, Err}
 use Rattle.std.proofs.Common.{sym, ap, ◌∙◌}
 use Rattle.std.proofs.lemmas.List.{length-replicate}
 use Rattle.rules.specs.Lent.{Lent}
@@ -15,8 +15,7 @@ use Rattle.laws.specs.Shapes.{shaped-true}
 use Rattle.laws.specs.Sounds.{sound-state}
 use Rattle.laws.specs.Kept.{Taken, refusal-taken}
 use Rattle.laws.specs.Refused.{tested_plain, call-refused, call-accepted}
-use Rattle.refusals.specs.Refusals.{told, lent_refusal, roomed, lent_none}
-use Rattle.refusals.specs.declared.Verdict.{Verdict}
+use Rattle.refusals.specs.Refusals.{told, roomed}
 
 -- ---- a verdict looks at the answer buffer's length alone
 
@@ -45,10 +44,7 @@ pub record Ready (c : Call) (s : Lent) : Type 0 where
   pub passes : verdict c s ≡ 0
   pub taken : Taken c (device_of s)
 
-module _ (c : Call) (s : Lent) (v : Verdict) (e : told v ≡ lent_refusal s) (f : v ≡ Verdict.Accepted) where
-  both : (shaped s ≡ true) × (sound s ≡ true)
-  both = lent_none s (sym (ap told f) ∙ e)
-
+module _ (c : Call) (s : Lent) (both : (shaped s ≡ true) × (sound s ≡ true)) where
   -- a state of the right shape, and a sound one
   pub ready-state : Shaped s × SoundState s
   ready-state = let h = shaped-true s both.0 in (h, sound-state s h both.1)
@@ -57,13 +53,13 @@ module _ (c : Call) (s : Lent) (v : Verdict) (e : told v ≡ lent_refusal s) (f 
   plainly = tested_plain (refusal c) s both.0 both.1
 
   -- the second verdict
-  module _ (w : Verdict) (g : told w ≡ refusal c (device_of s)) where
-    pub ready : w ≡ Verdict.Accepted → Ready c s
-    ready i =
+  module _ {A : Type 0} (w : Result A Refusal) (g : told w ≡ refusal c (device_of s)) where
+    pub ready : (a : A) → w ≡ Ok a → Ready c s
+    ready a i =
         let z : refusal c (device_of s) ≡ 0 = sym (sym (ap told i) ∙ g) in
         record { shape = ready-state.0; sound = ready-state.1; passes = plainly ∙ z; taken = refusal-taken c (device_of s) z }
 
-    pub refuses : (t : Refusal) → w ≡ Verdict.Refused t → refused (number t) c s ≡ call c s
+    pub refuses : (t : Refusal) → w ≡ Err t → refused (number t) c s ≡ call c s
     refuses t i = call-refused c s t (plainly ∙ sym (sym (ap told i) ∙ g))
 
 -- what an accepted call leaves

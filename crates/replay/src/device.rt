@@ -1,8 +1,11 @@
-// What is lent from line to line, and the request of each kind that changes it. No fact about what the layer answers is counted on.
+// What is lent from line to line, and what each request does to it. No fact about what the layer answers is counted on.
+use lists::first;
+use lists::line::Fault;
 use lists::print::Answer;
-use lists::{line, within, word};
-use rules::{Counted, Done, Head, Listed};
-use words::{kept, sizes_only};
+use lists::request::{Buffer, Change, Field, Pages, Poke, Request, Sizes};
+use rules::{Head, Last, Listed, Refusal};
+use thiserror::Error;
+use words::sizes_only;
 
 // The most of B, of B x N and of M that is held: those of the largest device.
 const MOST_BLOCKS: usize = 1024;
@@ -12,28 +15,67 @@ const MOST_PAGES: usize = 262144;
 const MOST_SLOTS: usize = 8192;
 
 // The words that these ask for. No answer is longer than a read of all slots with a hole before each and after the last.
-pub const EXTENT_WORDS: usize = 3 * MOST_SLOTS;
+const EXTENT_WORDS: usize = 3 * MOST_SLOTS;
 
-pub const BLOCK_WORDS: usize = words::STRIDE * MOST_BLOCKS;
+const BLOCK_WORDS: usize = words::STRIDE * MOST_BLOCKS;
 
-pub const SPARE_WORDS: usize = MOST_PAGES;
+const SPARE_WORDS: usize = MOST_PAGES;
 
-pub const ANSWER_WORDS: usize = 6 * MOST_SLOTS + 3;
+const ANSWER_WORDS: usize = 6 * MOST_SLOTS + 3;
 
-// The head, and how many words of each buffer are lent.
-#[derive(Clone, Copy)]
-pub struct Device {
-    pub head: Head,
-    pub extents: usize,
-    pub blocks: usize,
-    pub spare: usize,
-    pub room: usize,
+// Why a request is not done.
+#[derive(Clone, Copy, Debug, PartialEq, Eq, Error)]
+pub enum Undone {
+    #[error(transparent)]
+    Fault(#[from] Fault),
+    #[error(transparent)]
+    Refused(#[from] Refusal),
+}
+
+// Words of which the first are lent: as many as said, or all where there are no more.
+#[derive(Drop)]
+struct Buffered<const N: usize> {
+    words: [u32; N],
+    lent: usize,
+}
+
+impl<const N: usize> Buffered<N> {
+    fn new(lent: usize) -> Self {
+        Self {
+            words: [0; N],
+            lent,
+        }
+    }
+
+    fn lent(&self) -> &[u32] {
+        first(&self.words, self.lent)
+    }
+
+    fn lent_mut(&mut self) -> &mut [u32] {
+        let lent = self.lent;
+        self.first_mut(lent)
+    }
+
+    fn first_mut(&mut self, n: usize) -> &mut [u32] {
+        &mut self.words[..n.min(N)]
+    }
+
+    // Sets the word at index.
+    fn poke(&mut self, index: u32, value: u32) -> Result<(), Fault> {
+        let word = self.lent_mut().get_mut(index as usize).ok_or(Fault::Index)?;
+        *word = value;
+        Ok(())
+    }
 }
 
 #[derive(Drop)]
-pub struct Step {
-    pub device: Device,
-    pub answer: Answer,
+pub struct Device {
+    head: Head,
+    ext: Buffered<EXTENT_WORDS>,
+    blk: Buffered<BLOCK_WORDS>,
+    spare: Buffered<SPARE_WORDS>,
+    // The answer buffer.
+    out: Buffered<ANSWER_WORDS>,
 }
 
 impl Device {
@@ -41,144 +83,157 @@ impl Device {
     pub fn new() -> Self {
         Self {
             head: sizes_only(0, 0, 0, 0),
-            extents: 0,
-            blocks: 0,
-            spare: 0,
-            room: ANSWER_WORDS,
+            ext: Buffered::new(0),
+            blk: Buffered::new(0),
+            spare: Buffered::new(0),
+            out: Buffered::new(ANSWER_WORDS),
         }
     }
 
-    pub fn says(self, answer: Answer) -> Step {
-        Step {
-            device: self,
-            answer: answer,
-        }
-    }
-
-    // What a call answers, and the head that it leaves.
-    fn told(mut self, head: Head, answer: Answer) -> Step {
-        self.head = head;
-        self.says(answer)
-    }
-
-    pub fn room(mut self, words: u32) -> Step {
-        let room = words as usize;
-        self.room = if room < ANSWER_WORDS {
-            room
-        } else {
-            ANSWER_WORDS
-        };
-        self.says(Answer::Ok)
-    }
-
-    pub fn head(mut self, field: u64, value: u64) -> Step {
-        let mut head = self.head;
-        let word = line::short(value);
-        match field {
-            word::BLOCKS => head.blocks = word,
-            word::PAGES => head.pages = word,
-            word::LOGICAL => head.logical = word,
-            word::SLOTS => head.slots = word,
-            word::USED => head.used = word,
-            word::RESERVE => head.reserve = word,
-            _ => head.last = kept(value),
-        }
-        self.told(head, Answer::Ok)
-    }
-
-    // An accepted fresh decides how many words are lent from then on.
-    fn begun(mut self, done: Done, extents: usize, blocks: usize, spare: usize) -> Step {
-        match done {
-            Done::Accepted(head) => {
-                self.extents = extents;
-                self.blocks = blocks;
-                self.spare = spare;
-                self.told(head, Answer::Ok)
+    // Does what is asked, and answers it.
+    pub fn answer(&mut self, request: Request) -> Result<Answer<'_>, Undone> {
+        match request {
+            Request::Fresh(sizes) => self.fresh(sizes),
+            Request::Write(change) => self.write(change),
+            Request::Trim(change) => self.trim(change),
+            Request::Read(pages) => self.read(pages),
+            Request::Reclaim => self.reclaim(),
+            Request::Report => self.report(),
+            Request::Room(words) => {
+                self.out.lent = words as usize;
+                Ok(Answer::Done)
             }
-            Done::Refused(refusal, head) => self.says(Answer::Refused(refusal)),
+            Request::Poke(poke) => {
+                self.poke(poke)?;
+                Ok(Answer::Done)
+            }
+            Request::Head(field) => {
+                self.set(field);
+                Ok(Answer::Done)
+            }
+            Request::State => Ok(Answer::State {
+                head: self.head,
+                extents: self.ext.lent(),
+                blocks: self.blk.lent(),
+                spare: self.spare.lent(),
+            }),
         }
     }
 
-    pub fn done(self, done: Done) -> Step {
-        match done {
-            Done::Accepted(head) => self.told(head, Answer::Ok),
-            Done::Refused(refusal, head) => self.told(head, Answer::Refused(refusal)),
+    // Sizes that are not held are no request, but for B: more blocks than are held are refused whatever the lengths, and no more are lent. An
+    // accepted fresh decides how many words are lent from then on. A refused one changes no word, and the device from before stays.
+    fn fresh(&mut self, sizes: Sizes) -> Result<Answer<'_>, Undone> {
+        let pages = u64::from(sizes.blocks) * u64::from(sizes.pages);
+        if pages > MOST_PAGES as u64 || sizes.slots > MOST_SLOTS as u32 {
+            return Err(Fault::Sizes.into());
         }
+        let ext = 3 * sizes.slots as usize;
+        let blk = words::STRIDE * sizes.blocks as usize;
+        let spare = pages as usize;
+        self.head = layer::fresh(
+            sizes.blocks,
+            sizes.pages,
+            sizes.logical,
+            sizes.slots,
+            self.ext.first_mut(ext),
+            self.blk.first_mut(blk),
+            self.spare.first_mut(spare),
+        )?;
+        self.ext.lent = ext;
+        self.blk.lent = blk;
+        self.spare.lent = spare;
+        Ok(Answer::Done)
     }
 
-    pub fn pieces(self, listed: Listed) -> Step {
-        match listed {
-            Listed::Accepted(pieces, head) => self.told(head, Answer::Pieces(pieces)),
-            Listed::Refused(refusal, head) => self.told(head, Answer::Refused(refusal)),
-        }
+    fn write(&mut self, change: Change) -> Result<Answer<'_>, Undone> {
+        let listed = layer::write(
+            self.head,
+            self.ext.lent_mut(),
+            self.blk.lent_mut(),
+            self.spare.lent_mut(),
+            change.number,
+            change.pages.start,
+            change.pages.count,
+            self.out.lent_mut(),
+        )?;
+        Ok(self.pieces(listed))
+    }
+
+    fn trim(&mut self, change: Change) -> Result<Answer<'_>, Undone> {
+        self.head = layer::trim(
+            self.head,
+            self.ext.lent_mut(),
+            self.blk.lent_mut(),
+            self.spare.lent(),
+            change.number,
+            change.pages.start,
+            change.pages.count,
+        )?;
+        Ok(Answer::Done)
+    }
+
+    fn read(&mut self, pages: Pages) -> Result<Answer<'_>, Undone> {
+        let listed = layer::read(
+            self.head,
+            self.ext.lent(),
+            self.blk.lent(),
+            self.spare.lent(),
+            pages.start,
+            pages.count,
+            self.out.lent_mut(),
+        )?;
+        Ok(self.pieces(listed))
+    }
+
+    // What a write or a read lists.
+    fn pieces(&mut self, listed: Listed) -> Answer<'_> {
+        self.head = listed.head;
+        Answer::Pieces(first(&self.out.words, 3 * listed.count as usize))
     }
 
     // The new head names the block to erase.
-    pub fn copied(self, listed: Listed) -> Step {
-        match listed {
-            Listed::Accepted(pages, head) => {
-                let erase = head.reserve;
-                self.told(head, Answer::Copied(pages, erase))
-            }
-            Listed::Refused(refusal, head) => self.told(head, Answer::Refused(refusal)),
+    fn reclaim(&mut self) -> Result<Answer<'_>, Undone> {
+        let listed = layer::reclaim(
+            self.head,
+            self.ext.lent_mut(),
+            self.blk.lent_mut(),
+            self.spare.lent_mut(),
+            self.out.lent_mut(),
+        )?;
+        self.head = listed.head;
+        Ok(Answer::Copied {
+            pages: first(&self.out.words, listed.count as usize),
+            erase: listed.head.reserve,
+        })
+    }
+
+    fn report(&self) -> Result<Answer<'_>, Undone> {
+        let counted = layer::report(
+            self.head,
+            self.ext.lent(),
+            self.blk.lent(),
+            self.spare.lent(),
+        )?;
+        Ok(Answer::Counts(counted))
+    }
+
+    fn poke(&mut self, poke: Poke) -> Result<(), Fault> {
+        match poke.buffer {
+            Buffer::Extents => self.ext.poke(poke.index, poke.value),
+            Buffer::Blocks => self.blk.poke(poke.index, poke.value),
+            Buffer::Spare => self.spare.poke(poke.index, poke.value),
         }
     }
 
-    pub fn counted(self, counted: Counted) -> Step {
-        match counted {
-            Counted::Accepted(free, live, stale, head) => {
-                self.told(head, Answer::Counts(free, live, stale))
-            }
-            Counted::Refused(refusal, head) => self.told(head, Answer::Refused(refusal)),
+    fn set(&mut self, field: Field) {
+        match field {
+            Field::Blocks(blocks) => self.head.blocks = blocks,
+            Field::Pages(pages) => self.head.pages = pages,
+            Field::Logical(logical) => self.head.logical = logical,
+            Field::Slots(slots) => self.head.slots = slots,
+            Field::Used(used) => self.head.used = used,
+            Field::Reserve(reserve) => self.head.reserve = reserve,
+            Field::Last(number) => self.head.last = Last { number },
         }
     }
-}
-
-// Sizes that are not held are no request, but for B: more blocks than are held are refused whatever the lengths, and no more are lent. A
-// refused fresh changes no word, and the device from before stays.
-pub fn fresh(
-    d: Device,
-    ext: &mut [u32],
-    blk: &mut [u32],
-    spare: &mut [u32],
-    blocks: u32,
-    pages: u32,
-    logical: u32,
-    slots: u32,
-) -> Step {
-    let all = product(blocks, pages);
-    if all > MOST_PAGES as u64 {
-        return d.says(Answer::Wrong(line::SIZES, 0));
-    }
-    if slots > MOST_SLOTS as u32 {
-        return d.says(Answer::Wrong(line::SIZES, 0));
-    }
-    let e = within(3 * slots as usize, ext);
-    let b = within(words::STRIDE * blocks as usize, blk);
-    let s = within(all as usize, spare);
-    let done = layer::fresh(
-        blocks,
-        pages,
-        logical,
-        slots,
-        &mut ext[..e],
-        &mut blk[..b],
-        &mut spare[..s],
-    );
-    d.begun(done, e, b, s)
-}
-
-// Sets the word at index.
-pub fn poke(d: Device, words: &mut [u32], index: u32, value: u32) -> Step {
-    let i = index as usize;
-    if i >= words.len() {
-        return d.says(Answer::Wrong(line::INDEX, 0));
-    }
-    words[i] = value;
-    d.says(Answer::Ok)
-}
-
-// How many pages that many blocks have.
-fn product(a: u32, b: u32) -> u64 {
-    a as u64 * b as u64
 }

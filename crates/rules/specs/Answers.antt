@@ -1,9 +1,8 @@
 -- The number of each refusal, and what an answer says in the paper's numbers, case by case.
-use Rattle.std.specs.Prelude.{ℕ, Bool, cond, List, [], ◌∷◌}
+use Rattle.std.specs.Prelude.{ℕ, Bool, cond, List, [], ◌∷◌, Result, Ok, Err}
 use Rattle.rules.specs.Lent.{Lent}
 use Rattle.rules.specs.declared.Head.{Head}
 use Rattle.rules.specs.declared.Refusal.{Refusal}
-use Rattle.rules.specs.declared.Done.{Done}
 use Rattle.rules.specs.declared.Listed.{Listed}
 use Rattle.rules.specs.declared.Counted.{Counted}
 
@@ -40,20 +39,22 @@ pub record Said : Type 0 where
 abbrev pub said : ℕ → List ℕ → Head → Said
 said r cs h = record { refusal = r; counts = cs; head = h }
 
+-- the head h that was lent, or that fresh was given the sizes of, is the head of a refusal
+
 -- fresh and trim: no count
-abbrev pub done : Done → Said
-done (Done.Accepted h) = said 0 [] h
-done (Done.Refused r h) = said (number r) [] h
+abbrev pub done : Head → Result Head Refusal → Said
+done h (Ok after) = said 0 [] after
+done h (Err r) = said (number r) [] h
 
 -- write, read and reclaim: pieces of the answer, or copied pages
-abbrev pub listed : Listed → Said
-listed (Listed.Accepted k h) = said 0 (k ∷ []) h
-listed (Listed.Refused r h) = said (number r) (0 ∷ []) h
+abbrev pub listed : Head → Result Listed Refusal → Said
+listed h (Ok l) = said 0 (l.count ∷ []) l.head
+listed h (Err r) = said (number r) (0 ∷ []) h
 
 -- report: free, live, stale
-abbrev pub counted : Counted → Said
-counted (Counted.Accepted free live stale h) = said 0 (free ∷ live ∷ stale ∷ []) h
-counted (Counted.Refused r h) = said (number r) (0 ∷ 0 ∷ 0 ∷ []) h
+abbrev pub counted : Head → Result Counted Refusal → Said
+counted h (Ok c) = said 0 (c.free ∷ c.live ∷ c.stale ∷ []) h
+counted h (Err r) = said (number r) (0 ∷ 0 ∷ 0 ∷ []) h
 
 -- an answer and the words as they are afterwards
 abbrev pub outcome : Said → List ℕ → List ℕ → List ℕ → List ℕ → Outcome Lent

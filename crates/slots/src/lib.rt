@@ -8,31 +8,19 @@ ghost use Rattle.words.specs.Says.{Says};
 ghost use Rattle.slots.specs.Slot.{SlotLies};
 ghost use Rattle.slots.specs.Walk.{Given, Walked};
 
+use rules::Extent;
+
 // Rules 1 and 2 for a slot behind one that ended before (lo, q), but for where it ends: no logical page comes near the end of the words.
-fn row_ok(n: u32, lo: u32, q: u32, l: u32, p: u32, c: u32) -> bool
+fn row_ok(n: u32, lo: u32, q: u32, x: Extent) -> bool
     requires { 0 < n }
-    ensures { Says result (SlotLies n lo q l p c) }
+    ensures { Says result (SlotLies n lo q x.logical x.physical x.count) }
 {
-    if l < lo {
-        return false;
-    }
-    if l >= 2147483648 {
-        return false;
-    }
-    if c == 0 {
-        return false;
-    }
-    let o = p % n;
-    if c > n - o {
-        return false;
-    }
-    if p != q {
-        return true;
-    }
-    if l != lo {
-        return true;
-    }
-    o == 0
+    let o = x.physical % n;
+    lo <= x.logical
+        && x.logical < 2147483648
+        && x.count != 0
+        && x.count <= n - o
+        && (x.physical != q || x.logical != lo || o == 0)
 }
 
 // Every slot in use, and its labels. Each slot's pages are added to its block's place in the tally.
@@ -42,25 +30,20 @@ pub fn walk(ext: &[u32], spare: &[u32], used: usize, n: u32, tally: &mut [u32]) 
 {
     let table = windows::masks();
     let near = windows::near_of(spare.len(), n as usize);
-    let mut i: usize = 0;
-    let mut lo: u32 = 0;
-    let mut q: u32 = 4294967295;
-    while i < used {
-        let at = 3 * i;
-        let l = ext[at];
-        let p = ext[at + 1];
-        let c = ext[at + 2];
-        if !row_ok(n, lo, q, l, p, c) {
+    let mut lo = 0;
+    let mut q = u32::MAX;
+    for i in 0..used {
+        let x = words::slot_at(ext, i);
+        if !row_ok(n, lo, q, x) {
             return false;
         }
-        if !windows::home_ok(spare, near, &table, l, p, c) {
+        if !windows::home_ok(spare, near, &table, x.logical, x.physical, x.count) {
             return false;
         }
-        let b = (p / n) as usize;
-        tally[b] = tally[b] + c;
-        lo = l + c;
-        q = p + c;
-        i += 1;
+        let b = (x.physical / n) as usize;
+        tally[b] += x.count;
+        lo = x.logical + x.count;
+        q = x.physical + x.count;
     }
     true
 }

@@ -1,6 +1,8 @@
 -- Where a write starts: with the first block that has room for all of its pages or, where none has, with the first that has room for one. This is what the
 -- callers of `start_of`, `pieces_of` and `place` go by: on a device that placement cannot tell from the words it is the rules' first page and the rules' pieces.
 use Rattle.std.specs.Prelude.{ℕ, ◌+◌, ◌*◌, ◌≤◌, ◌<◌, min, ◌≡◌, refl, List, [], ◌∷◌, Bool, false, ◌&&◌, ◌⊎◌, ltb, leb, get_or, drop}
+use Rattle.std.specs.Prelude.{Option, None, Some, MatchOption, unwrap_or}
+use Rattle.std.specs.Option.{option_or}
 use Rattle.std.proofs.Math.Path.{sym, ap}
 use Rattle.std.proofs.Common.{◌∙◌, subst}
 use Rattle.std.proofs.Math.Logic.{inl, inr, by_cases, ⊎_elim}
@@ -75,73 +77,72 @@ module _ (n reserve blocks : ℕ) (blk : List ℕ) where
 
   -- ---- the pass over the records
 
-  -- before block b none takes all of `want` pages, and `any` is the first that takes some, or the number of blocks
-  pub record Tried (want b any : ℕ) : Type 0 where
+  -- none before block a takes any
+  abbrev Nothing : ℕ → ℕ → Type 0
+  Nothing want a = (j : ℕ) → j < a → takes n reserve blocks blk j want ≡ 0
+
+  -- before block b none takes all of `want` pages, and `any` is the first that takes some
+  pub record Tried (want b : ℕ) (any : Option ℕ) : Type 0 where
     pub inside : b ≤ blocks
-    pub bound : any ≤ blocks
     pub short : 0 < want → (j : ℕ) → j < b → room_of j < want
-    pub before : (j : ℕ) → j < b → j < any → takes n reserve blocks blk j want ≡ 0
-    pub some : any < blocks → (any < b) × (0 < takes n reserve blocks blk any want)
+    pub some : MatchOption any (Nothing want b) (λ a. (a < b) × (0 < takes n reserve blocks blk a want) × Nothing want a)
 
   module _ (want b : ℕ) where
-    pub tried_first : b ≡ 0 → Tried want b blocks
-    tried_first e = record {
-      inside = omega arith;
-      bound = omega arith;
-      short = λ s j h. absurd (omega arith);
-      before = λ j h _. absurd (omega arith);
-      some = λ h. absurd (omega arith);
-    }
-
-    module _ (any : ℕ) (p : Tried want b any) (m : ℕ) (t : m ≡ takes n reserve blocks blk b want) where
+    module _ (any : Option ℕ) (p : Tried want b any) (h : b < blocks) (m : ℕ) (t : m ≡ takes n reserve blocks blk b want) where
       -- it takes all of them
-      pub tried_found : b < blocks → 0 < m → m ≡ want → b ≡ start_block n reserve (fills_of blocks blk) want
+      pub tried_found : 0 < m → m ≡ want → b ≡ start_block n reserve (fills_of blocks blk) want
       unfolding start_block taken
-      tried_found h s e =
+      tried_found s e =
           let f = fitting-is want b (omega arith) h (omega arith) (p.short (omega arith)) in
           sym (rw f (rw (lt-ltb b (length (fills_of blocks blk)) (omega (arith, size))) refl))
 
       next-short : (m < want) ⊎ (m ≡ 0) → 0 < want → (j : ℕ) → j < b + 1 → room_of j < want
       unfolding taken
-      next-short s o j h =
+      next-short s o j g =
           by_cases (dec_lt j b)
           (λ a. p.short o j a)
           (λ a. let e : j ≡ b = omega arith in ⊎_elim (λ z. omega (arith, ap room_of e)) (λ z. omega (arith, ap room_of e)) s)
 
-      -- it is the first that takes some
-      pub tried_some : b < blocks → m < want → 0 < m → any ≡ blocks → Tried want (b + 1) b
-      tried_some h s o e = record {
-        inside = omega arith;
-        bound = omega arith;
-        short = next-short (inl s);
-        before = λ j a c. p.before j c (omega arith);
-        some = λ _. (omega arith, omega arith);
-      }
+    -- it takes some, which is new where none did before
+    pub tried_some : (any : Option ℕ) → Tried want b any → b < blocks → (m : ℕ) → m ≡ takes n reserve blocks blk b want
+        → m < want → 0 < m → Tried want (b + 1) (option_or any (Some b))
+    tried_some None p h m t s o = record {
+      inside = omega arith;
+      short = next-short None p h m t (inl s);
+      some = (omega arith, omega arith, p.some);
+    }
+    tried_some (Some a) p h m t s o = record {
+      inside = omega arith;
+      short = next-short (Some a) p h m t (inl s);
+      some = (omega (arith, p.some.0), p.some.1, p.some.2);
+    }
 
-      -- it takes none, or is not the first
-      pub tried_next : b < blocks → (m ≡ 0) ⊎ ((m < want) × (any < blocks)) → Tried want (b + 1) any
-      tried_next h o = record {
-        inside = omega arith;
-        bound = p.bound;
-        short = next-short (⊎_elim inr (λ z. inl z.0) o);
-        before = λ j a c. by_cases (dec_lt j b)
-            (λ d. p.before j d c)
-            (λ d. let e : j ≡ b = omega arith in
-            ⊎_elim (λ z. omega (arith, ap (λ (x : ℕ). takes n reserve blocks blk x want) e)) (λ z. absurd (omega (arith, (p.some z.1).0))) o);
-        some = λ a. let q = p.some a in (omega (arith, q.0), q.1);
-      }
+    -- it takes none
+    pub tried_none : (any : Option ℕ) → Tried want b any → b < blocks → (m : ℕ) → m ≡ takes n reserve blocks blk b want → m ≡ 0 → Tried want (b + 1) any
+    tried_none None p h m t o = record {
+      inside = omega arith;
+      short = next-short None p h m t (inr o);
+      some = λ j g. by_cases (dec_lt j b)
+          (p.some j)
+          (λ d. let e : j ≡ b = omega arith in omega (arith, ap (λ (x : ℕ). takes n reserve blocks blk x want) e));
+    }
+    tried_none (Some a) p h m t o = record {
+      inside = omega arith;
+      short = next-short (Some a) p h m t (inr o);
+      some = (omega (arith, p.some.0), p.some.1, p.some.2);
+    }
 
     -- none takes all of them
-    pub tried_end : (any : ℕ) → Tried want b any → blocks ≤ b → any ≡ start_block n reserve (fills_of blocks blk) want
+    pub tried_end : (any : Option ℕ) → Tried want b any → blocks ≤ b → unwrap_or any blocks ≡ start_block n reserve (fills_of blocks blk) want
     unfolding start_block taken
     tried_end any p h =
         let none-fits = fitting-none want (λ s j a. p.short s j (omega arith)) in
-        let any-is : fitting n reserve (fills_of blocks blk) (min want 1) ≡ any =
-        by_cases (dec_lt any blocks)
-        (λ a. let q = p.some a in
-        fitting-is (min want 1) any (omega (arith, q.1)) a (omega (arith, q.1)) (λ j c. omega (arith, p.before j (omega arith) c, q.1)))
-        (λ a. fitting-none (min want 1) (λ s j c. omega (arith, p.before j (omega arith) (omega arith))) ∙ omega (arith, p.bound)) in
-        sym (rw none-fits (rw (le-ltb blocks (length (fills_of blocks blk)) (omega (arith, size))) any-is))
+        sym (rw none-fits (rw (le-ltb blocks (length (fills_of blocks blk)) (omega (arith, size))) (any-is any p.some)))
+      where
+        any-is : (any : Option ℕ) → MatchOption any (Nothing want b) (λ a. (a < b) × (0 < takes n reserve blocks blk a want) × Nothing want a)
+            → fitting n reserve (fills_of blocks blk) (min want 1) ≡ unwrap_or any blocks
+        any-is None q = fitting-none (min want 1) (λ s j c. omega (arith, q j (omega arith)))
+        any-is (Some a) q = fitting-is (min want 1) a (omega (arith, q.1)) (omega (arith, q.0, p.inside)) (omega (arith, q.1)) (λ j c. omega (arith, q.2 j c, q.1))
 
   -- ---- the block that is found
 

@@ -14,20 +14,15 @@ pub fn room_in(blk: &[u32], b: usize, n: u32, reserve: u32, want: u32) -> u32
     requires { HasBlock blk.now b }
     ensures { result ≡ taken n reserve b (fill_word blk.now b) want }
 {
-    let fill = words::fill_of(blk, b);
-    if n <= fill {
-        return 0;
-    }
     if b == reserve as usize {
         return 0;
     }
-    if n - fill < want {
-        return n - fill;
-    }
-    want
+    let room = n.saturating_sub(words::fill_of(blk, b));
+    room.min(want)
 }
 
-// Where a write starts: the block of its first page, and that page.
+// Where a write starts: the block of its first page, and that page. No Option: where no block has room the block is the number behind the last one, from which
+// on `pieces_of` finds no pieces, and the contract (`Starts`) names it in that case too.
 #[derive(Clone, Copy)]
 pub struct Start {
     pub block: usize,
@@ -48,21 +43,17 @@ fn start_block(blk: &[u32], blocks: u32, n: u32, reserve: u32, want: u32) -> usi
     requires { stride * blocks ≤ length blk.now }
     ensures { result ≡ start_block n reserve (fills_of blocks blk.now) want }
 {
-    let mut any = blocks as usize;
-    let mut b: usize = 0;
-    while b < blocks as usize {
+    let mut any: Option<usize> = None;
+    for b in 0..blocks as usize {
         let m = room_in(blk, b, n, reserve, want);
         if 0 < m {
             if takes_all(m, want) {
                 return b;
             }
-            if any == blocks as usize {
-                any = b;
-            }
+            any = any.or(Some(b));
         }
-        b += 1;
     }
-    any
+    any.unwrap_or(blocks as usize)
 }
 
 // Where `want` pages start: the block, and its next page, which is 0 where there is no block.
@@ -70,15 +61,12 @@ pub fn start_of(blk: &[u32], blocks: u32, n: u32, reserve: u32, want: u32) -> St
     requires { Startable blocks n blk.now }
     ensures { Starts n reserve blocks blk.now want result }
 {
-    let b = start_block(blk, blocks, n, reserve, want);
-    if blocks as usize <= b {
-        return Start { block: b, page: 0 };
+    let block = start_block(blk, blocks, n, reserve, want);
+    if blocks as usize <= block {
+        return Start { block, page: 0 };
     }
-    let page = (b as u32) * n + words::fill_of(blk, b);
-    Start {
-        block: b,
-        page: page,
-    }
+    let page = (block as u32) * n + words::fill_of(blk, block);
+    Start { block, page }
 }
 
 // How many pieces `want` pages make from block `from` on.
@@ -88,8 +76,7 @@ pub fn pieces_of(blk: &[u32], blocks: u32, n: u32, reserve: u32, from: usize, wa
 {
     let mut count: u32 = 0;
     let mut left = want;
-    let mut b = from;
-    while b < blocks as usize {
+    for b in from..blocks as usize {
         if left == 0 {
             return count;
         }
@@ -98,7 +85,6 @@ pub fn pieces_of(blk: &[u32], blocks: u32, n: u32, reserve: u32, from: usize, wa
             count += 1;
         }
         left -= m;
-        b += 1;
     }
     count
 }

@@ -47,14 +47,6 @@ single : (n b l e : ℕ) (x : Extent) → total (in_range n b l e) (x ∷ []) �
 unfolding total
 single n b l e x = omega arith
 
--- nothing of it lies in the range
-pub lowered-same : (n l e : ℕ) (x : Extent) (blk : List ℕ) → overlap x l e ≡ 0 → Lowered n l e (x ∷ []) blk blk
-lowered-same n l e x blk h = record {
-  size = refl;
-  fills = λ b. refl;
-  valids = λ b. omega (arith, single n b l e x, nothing n b l e x h);
-}
-
 -- as the code takes it from the record of its block
 pub lowered-set : (n l e b c v : ℕ) (x : Extent) (r : BlockRecord) (blk blk' : List ℕ) → b ≡ x.physical / n → c ≡ overlap x l e → r ≡ block_at blk b
     → HasBlock blk b → c ≤ r.valid → v ≡ r.valid - c → blk' ≡ put_block blk b (record { fill = r.fill; valid = v }) → Lowered n l e (x ∷ []) blk blk'

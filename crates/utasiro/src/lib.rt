@@ -34,7 +34,10 @@ pub extern "C" fn utasiro_fresh(
     ensures { (outcome (of_done result) ext.new blk.new spare.new []
         ≡ fresh blocks pages logical slots ext.old blk.old spare.old) × (result.count ≡ 0) }
 {
-    answers::of_done(layer::fresh(blocks, pages, logical, slots, ext, blk, spare))
+    answers::of_done(
+        words::sizes_only(blocks, pages, logical, slots),
+        layer::fresh(blocks, pages, logical, slots, ext, blk, spare),
+    )
 }
 
 #[unsafe(no_mangle)]
@@ -51,7 +54,7 @@ pub extern "C" fn utasiro_write(
     ensures { outcome (of_listed result) ext.new blk.new spare.new out.new
         ≡ call (Call.write number l n out.old) (lent h ext.old blk.old spare.old) }
 {
-    answers::of_listed(layer::write(h, ext, blk, spare, number, l, n, out))
+    answers::of_listed(h, layer::write(h, ext, blk, spare, number, l, n, out))
 }
 
 #[unsafe(no_mangle)]
@@ -67,7 +70,7 @@ pub extern "C" fn utasiro_trim(
     ensures { (outcome (of_done result) ext.new blk.new spare.now []
         ≡ call (Call.trim number l n) (lent h ext.old blk.old spare.now)) × (result.count ≡ 0) }
 {
-    answers::of_done(layer::trim(h, ext, blk, spare, number, l, n))
+    answers::of_done(h, layer::trim(h, ext, blk, spare, number, l, n))
 }
 
 #[unsafe(no_mangle)]
@@ -83,7 +86,7 @@ pub extern "C" fn utasiro_read(
     ensures { outcome (of_listed result) ext.now blk.now spare.now out.new
         ≡ call (Call.read l n out.old) (lent h ext.now blk.now spare.now) }
 {
-    answers::of_listed(layer::read(h, ext, blk, spare, l, n, out))
+    answers::of_listed(h, layer::read(h, ext, blk, spare, l, n, out))
 }
 
 #[unsafe(no_mangle)]
@@ -99,7 +102,7 @@ pub extern "C" fn utasiro_read_records(
     ensures { outcome (of_listed result) (flat recs.now) blk.now spare.now out.new
         ≡ call (Call.read l n out.old) (lent h (flat recs.now) blk.now spare.now) }
 {
-    answers::of_listed(records::read_records(h, recs, blk, spare, l, n, out))
+    answers::of_listed(h, records::read_records(h, recs, blk, spare, l, n, out))
 }
 
 #[unsafe(no_mangle)]
@@ -113,7 +116,7 @@ pub extern "C" fn utasiro_reclaim(
     ensures { outcome (of_listed result) ext.new blk.new spare.new out.new
         ≡ call (Call.reclaim out.old) (lent h ext.old blk.old spare.old) }
 {
-    answers::of_listed(layer::reclaim(h, ext, blk, spare, out))
+    answers::of_listed(h, layer::reclaim(h, ext, blk, spare, out))
 }
 
 #[unsafe(no_mangle)]
@@ -121,5 +124,5 @@ pub extern "C" fn utasiro_report(h: Head, ext: &[u32], blk: &[u32], spare: &[u32
     ensures { outcome (of_counts result) ext.now blk.now spare.now []
         ≡ call Call.report (lent h ext.now blk.now spare.now) }
 {
-    answers::of_counted(layer::report(h, ext, blk, spare))
+    answers::of_counted(h, layer::report(h, ext, blk, spare))
 }

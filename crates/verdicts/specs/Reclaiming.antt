@@ -1,5 +1,5 @@
 -- A reclaim's verdict, from the tests that the code makes.
-use Rattle.std.specs.Prelude.{ℕ, ◌*◌, ◌≤◌, ◌<◌, Bool, not, ◌≡◌, eqb, leb, length}
+use Rattle.std.specs.Prelude.{ℕ, ◌*◌, ◌≤◌, ◌<◌, Bool, not, ◌≡◌, eqb, leb, length, Result, Ok, Err}
 use Rattle.std.proofs.Common.{sym, ◌∙◌, arith}
 use Rattle.std.proofs.Math.Path.{ap, ap₂}
 use Rattle.std.proofs.Math.Logic.{by_cases}
@@ -12,7 +12,7 @@ use Rattle.rules.specs.Blocks.{stride, fill_word, valid_word, HasBlock}
 use Rattle.rules.specs.Lent.{Lent, valid_of}
 use Rattle.rules.specs.Device.{blocks, stale, device_of}
 use Rattle.rules.specs.Reclaim.{victim, sources}
-use Rattle.rules.specs.Answers.{refuse}
+use Rattle.rules.specs.Answers.{number, refuse}
 use Rattle.rules.specs.Calls.{reclaim_refusal}
 use Rattle.rules.specs.declared.Refusal.{Refusal}
 use Rattle.laws.specs.Sums.{sum-zero, zero-sum}
@@ -23,8 +23,7 @@ use Rattle.laws.specs.Reclaimed.{length-sources}
 use Rattle.laws.specs.Gains.{victim-chosen}
 use Rattle.blocks.specs.Totals.{state-filled, device-stale}
 use Rattle.choosing.specs.Stale.{stale_word, victim-words}
-use Rattle.refusals.specs.Refusals.{told, first_of, roomed, over-not, first_then}
-use Rattle.refusals.specs.declared.Verdict.{Verdict}
+use Rattle.refusals.specs.Refusals.{told, roomed, over-not, stops, lets_pass, goes_on}
 
 module _ (s : Lent) (h : Shaped s) (z : SoundState s) where
   -- what the search for the victim asks of the block records
@@ -65,12 +64,23 @@ module _ (s : Lent) (h : Shaped s) (z : SoundState s) where
         ap (valid_of s) f
         ∙ sym (length-sources d (state-storable s h z).sound (victim d) c.inside c.other ∙ valid-in_use s h z (victim d) (omega (arith, c.inside, device-blocks s)))
 
-    -- by two tests
-    pub reclaim-first : (room i j : ℕ) (a b : Verdict) → i ≡ stale_word s.block_words v → j ≡ valid_word s.block_words v
-        → told a ≡ refuse (not (ltb 0 i)) Refusal.NothingStale 0 → told b ≡ refuse (not (leb j room)) Refusal.OutShort 0
-        → first_of a (told b) ≡ reclaim_refusal (roomed room) (device_of s)
-    unfolding reclaim_refusal
-    reclaim-first room i j a b e g p q =
-        first_then a Refusal.NothingStale p (is-nothing i e)
-        (λ o. let x = eqb-false (stale (device_of s)) 0 o in
-        q ∙ ap (λ (t : Bool). refuse t Refusal.OutShort 0) (over-not j room ∙ ap₂ ltb (sym (length-replicate {A = ℕ} room 0)) (g ∙ copies (omega arith))))
+    module _ (room i : ℕ) (e : i ≡ stale_word s.block_words v) (a : Result (Unit {0}) Refusal) (p : told a ≡ refuse (not (ltb 0 i)) Refusal.NothingStale 0) where
+      -- 7, which is tested where 8 is passed
+      late : ℕ
+      late = refuse (ltb room (length (sources (victim (device_of s)) (device_of s)))) Refusal.OutShort 0
+
+      in_order : reclaim_refusal (roomed room) (device_of s) ≡ refuse (not (ltb 0 i)) Refusal.NothingStale late
+      unfolding reclaim_refusal late
+      in_order = ap₂ (λ (b : Bool) (k : ℕ). refuse b Refusal.NothingStale (refuse (ltb k (length (sources (victim (device_of s)) (device_of s)))) Refusal.OutShort 0))
+          (sym (is-nothing i e)) (length-replicate {A = ℕ} room 0)
+
+      pub reclaim-nothing : (r : Refusal) → a ≡ Err r → number r ≡ reclaim_refusal (roomed room) (device_of s)
+      reclaim-nothing r f = stops a (not (ltb 0 i)) Refusal.NothingStale p r f late ∙ sym in_order
+
+      pub reclaim-short : (x : Unit {0}) → a ≡ Ok x → (j : ℕ) (b : Result (Unit {0}) Refusal) → j ≡ valid_word s.block_words v
+          → told b ≡ refuse (not (leb j room)) Refusal.OutShort 0 → told b ≡ reclaim_refusal (roomed room) (device_of s)
+      unfolding late
+      reclaim-short x f j b g q =
+          let o = eqb-false (stale (device_of s)) 0 (sym (is-nothing i e) ∙ lets_pass a (not (ltb 0 i)) Refusal.NothingStale p x f) in
+          q ∙ ap (λ (t : Bool). refuse t Refusal.OutShort 0) (over-not j room ∙ ap (ltb room) (g ∙ copies (omega arith)))
+          ∙ sym (goes_on a (not (ltb 0 i)) Refusal.NothingStale p x f late) ∙ sym in_order

@@ -15,7 +15,7 @@ use Rattle.laws.specs.Sounds.{sound-state}
 use Rattle.laws.specs.Views.{view-accepts, report-view}
 use Rattle.laws.specs.Refused.{tested_plain}
 use Rattle.blocks.specs.Totals.{Filled, Totalled, state-filled, device-free, device-live, device-stale}
-use Rattle.blocks.specs.declared.Totals.{Totals}
+use Rattle.rules.specs.declared.Counted.{Counted}
 
 module _ (s : Lent) (e : (shaped s ≡ true) × (sound s ≡ true)) where
   shape : Shaped s
@@ -27,7 +27,7 @@ module _ (s : Lent) (e : (shaped s ≡ true) × (sound s ≡ true)) where
   pub report-filled : Filled s.head s.block_words
   report-filled = state-filled s shape is-sound
 
-  pub report-counts : (t : Totals) → Totalled s.head s.block_words t
+  pub report-counts : (t : Counted) → Totalled s.head s.block_words t
       → outcome (said 0 (t.free ∷ t.live ∷ t.stale ∷ []) s.head) s.extent_words s.block_words s.spare [] ≡ call Call.report s
   unfolding over
   report-counts t w =

@@ -1,12 +1,10 @@
 -- Windows of eight labels under a mask.
-use Rattle.std.specs.Prelude.{ℕ, ◌+◌, ◌-◌, ◌^◌, ◌≤◌, ◌<◌, Bool, true, false, not, ◌||◌, ◌≡◌, refl, List, ◌++◌, eqb, ltb, length, get_or, take, drop, replicate}
-use Rattle.std.proofs.Common.{sym, ap, ◌∙◌, arith, mod-eq_of_lt, lt-ltb, le-ltb, eqb-true, eq-eqb, get_or-append-add}
+use Rattle.std.specs.Prelude.{ℕ, ◌+◌, ◌-◌, ◌^◌, ◌≤◌, ◌<◌, Bool, true, false, not, ◌||◌, ◌≡◌, refl, List, eqb, ltb, length, get_or, take, drop}
+use Rattle.std.proofs.Common.{sym, ap, ◌∙◌, arith, mod-eq_of_lt, lt-ltb, le-ltb, eqb-true, eq-eqb}
 use Rattle.std.proofs.Math.Logic.{by_cases}
 use Rattle.std.proofs.Math.Decide.{dec_lt}
 use Rattle.std.specs.Int.Bits.{bit_and, bit_or, bit_xor, and_zero_r}
 use Rattle.std.proofs.lemmas.Nat.{xor_lt, and_mask}
-use Rattle.std.proofs.lemmas.List.{get_or-replicate}
-use Rattle.std.proofs.Math.ListN.{get_or-append}
 use Rattle.rules.specs.Counting.{all}
 use Rattle.rules.specs.Extents.{none}
 use Rattle.words.specs.Says.{Says, says_for, says_all, says-no, told-no, told-yes}
@@ -25,17 +23,6 @@ pub record Table (table : List ℕ) : Type 0 where
   pub long : length table ≡ 16
   pub ones : (k : ℕ) → k < 8 → get_or table k 0 ≡ none
   pub zeros : (k : ℕ) → 8 ≤ k → k < 16 → get_or table k 0 ≡ 0
-
-pub masks_table : Table (replicate 8 none ++ replicate 8 0)
-masks_table = record {
-  long = refl;
-  ones = λ k s. get_or-append (replicate 8 none) (replicate 8 0) 0 k s ∙ get_or-replicate {A = ℕ} 8 k none 0 s;
-  zeros = λ k s t.
-      let at : 8 + (k - 8) ≡ k = omega arith in
-      sym (ap (λ (j : ℕ). get_or (replicate 8 none ++ replicate 8 0) j 0) at)
-      ∙ get_or-append-add (replicate 8 none) (replicate 8 0) (k - 8) 0
-      ∙ get_or-replicate {A = ℕ} 8 (k - 8) 0 0 (omega arith);
-}
 
 -- the window of the table that begins 8 - m words in
 table_mask : {table ys : List ℕ} {r : ℕ} → Table table → Part ys table r 8 → (m : ℕ) → r ≡ 8 - m → m ≤ 8 → Mask ys m
@@ -121,16 +108,12 @@ pub record Windowed (ws : List ℕ) (l : ℕ) (table : List ℕ) : Type 0 where
   pub low : l + length ws + 8 ≤ none
   pub table_is : Table table
 
--- the windows before k are right, and the next ends at e
-pub record Going (ws : List ℕ) (l e k : ℕ) : Type 0 where
+-- the windows before k are right
+pub record Going (ws : List ℕ) (l k : ℕ) : Type 0 where
   pub within : k < length ws
-  pub ends : e ≡ l + k + 8
   pub done : (j : ℕ) → j < k → get_or ws j 0 ≡ l + j
 
-pub going_start : (ws : List ℕ) (l : ℕ) → 8 < length ws → Going ws l (l + 8) 0
-going_start ws l h = record { within = omega arith; ends = omega arith; done = λ j s. absurd (omega arith) }
-
-module _ {ws table : List ℕ} {l e k : ℕ} (g : Windowed ws l table) (h : Going ws l e k) where
+module _ {ws table : List ℕ} {l k : ℕ} (g : Windowed ws l table) (h : Going ws l k) where
   abbrev c : ℕ
   c = length ws
 
@@ -150,14 +133,14 @@ module _ {ws table : List ℕ} {l e k : ℕ} (g : Windowed ws l table) (h : Goin
   parted : (a : ℕ) → a + 8 ≤ c → ((j : ℕ) → j < c → get_or ws j 0 ≡ l + j) → (j : ℕ) → j < 8 → get_or ws (a + j) 0 ≡ l + a + j
   parted a i w j s = let to : l + (a + j) ≡ l + a + j = omega arith in w (a + j) (omega arith) ∙ to
 
-  pub going_no : (r : Bool) → k + 8 < c → not r ≡ true → Masked (take (k + 8 - k) (drop k ws)) (take 8 table) e r → Says false ((j : ℕ) → j < c → get_or ws j 0 ≡ l + j)
-  going_no r s n w = says-no (λ v. told-no r (window-at k (k + 8) e r refl (omega arith) h.ends w) n (parted k (omega arith) v))
+  pub going_no : (r : Bool) → k + 8 < c → not r ≡ true → Masked (take (k + 8 - k) (drop k ws)) (take 8 table) (l + (k + 8)) r
+      → Says false ((j : ℕ) → j < c → get_or ws j 0 ≡ l + j)
+  going_no r s n w = says-no (λ v. told-no r (window-at k (k + 8) (l + (k + 8)) r refl (omega arith) (omega arith) w) n (parted k (omega arith) v))
 
-  pub going_step : (r : Bool) → k + 8 < c → not r ≡ false → Masked (take (k + 8 - k) (drop k ws)) (take 8 table) e r → Going ws l (e + 8) (k + 8)
+  pub going_step : (r : Bool) → k + 8 < c → not r ≡ false → Masked (take (k + 8 - k) (drop k ws)) (take 8 table) (l + (k + 8)) r → Going ws l (k + 8)
   going_step r s n w = record {
     within = s;
-    ends = omega (arith, h.ends);
-    done = joined k (omega arith) (told-yes r (window-at k (k + 8) e r refl (omega arith) h.ends w) n);
+    done = joined k (omega arith) (told-yes r (window-at k (k + 8) (l + (k + 8)) r refl (omega arith) (omega arith) w) n);
   }
 
   pub going_end : (r : Bool) → c ≤ k + 8 → Masked (take (c - (c - 8)) (drop (c - 8) ws)) (take 8 table) (l + c) r → Says r ((j : ℕ) → j < c → get_or ws j 0 ≡ l + j)

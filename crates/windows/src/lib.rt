@@ -13,30 +13,16 @@ const W: usize = 8;
 pub fn masks() -> [u32; 16]
     ensures { Table result }
 {
-    let ones: u32 = 4294967295;
-    [
-        ones, ones, ones, ones, ones, ones, ones, ones, 0, 0, 0, 0, 0, 0, 0, 0,
-    ]
-}
-
-fn larger(a: usize, b: usize) -> usize
-    ensures { result ≡ max a b }
-{
-    if a < b {
-        return b;
-    }
-    a
+    let mut table = [0; 16];
+    table[..W].fill(u32::MAX);
+    table
 }
 
 // From a page before this one on there are N pages and a window: no slot there reaches over the last page, and no window.
 pub fn near_of(pages: usize, n: usize) -> usize
     ensures { Reach result n pages }
 {
-    let most = larger(n, W);
-    if pages < most {
-        return 0;
-    }
-    pages - most
+    pages.saturating_sub(n.max(W))
 }
 
 // The words under the mask's ones are those that end before e: e - W, e - W + 1, .. Counted from the end no lane adds 0, and all of them are one vector.
@@ -44,11 +30,9 @@ fn window_ok(ws: &[u32], mask: &[u32], e: u32) -> bool
     requires { (8 ≤ length ws.now) × (8 ≤ length mask.now) × (8 ≤ e) }
     ensures { Masked ws.now mask.now e result }
 {
-    let mut off: u32 = 0;
-    let mut k: usize = 0;
-    while k < W {
-        off = off | ((ws[k] ^ (e - ((W - k) as u32))) & mask[k]);
-        k += 1;
+    let mut off = 0;
+    for k in 0..W {
+        off |= (ws[k] ^ (e - (W - k) as u32)) & mask[k];
     }
     off == 0
 }
@@ -59,17 +43,12 @@ fn windows_ok(ws: &[u32], l: u32, table: &[u32]) -> bool
     ensures { Says result ((k : ℕ) → k < length ws.now → get_or ws.now k 0 ≡ l + k) }
 {
     let len = ws.len();
-    let mut e = l + (W as u32);
-    let mut k: usize = 0;
-    while k + W < len {
-        if !window_ok(&ws[k..k + W], &table[..W], e) {
+    for k in (0..len - W).step_by(W) {
+        if !window_ok(&ws[k..k + W], &table[..W], l + (k + W) as u32) {
             return false;
         }
-        k += W;
-        e += W as u32;
     }
-    let last = len - W;
-    window_ok(&ws[last..len], &table[..W], l + (len as u32))
+    window_ok(&ws[len - W..], &table[..W], l + len as u32)
 }
 
 // The pages from p on, c of them, are there and carry the logical pages from l on. Before page `near` neither they nor a window reach over the last page.
@@ -81,14 +60,11 @@ pub fn home_ok(spare: &[u32], near: usize, table: &[u32], l: u32, p: u32, c: u32
     let many = c as usize;
     let to = from + many;
     if from >= near {
-        if to > spare.len() {
-            return false;
-        }
-        return words::all_rise(&spare[from..to], l);
+        return to <= spare.len() && words::all_rise(&spare[from..to], l);
     }
     if many > W {
         return windows_ok(&spare[from..to], l, table);
     }
     let r = W - many;
-    window_ok(&spare[from..from + W], &table[r..r + W], l + (W as u32))
+    window_ok(&spare[from..from + W], &table[r..r + W], l + W as u32)
 }

@@ -1,6 +1,5 @@
 pub mod Scan
 pub mod Store
-pub mod Shift
 pub mod Parts
 pub mod Says
 pub mod Scans

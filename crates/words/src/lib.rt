@@ -21,23 +21,14 @@ pub const STRIDE: usize = 2;
 pub fn number_of(r: Refusal) -> u32
     ensures { result ≡ number r }
 {
-    match r {
-        Refusal::Shape => 1,
-        Refusal::Damaged => 2,
-        Refusal::Range => 3,
-        Refusal::Applied => 4,
-        Refusal::NoPages => 5,
-        Refusal::NoNodes => 6,
-        Refusal::OutShort => 7,
-        Refusal::NothingStale => 8,
-    }
+    r as u32
 }
 
 // What is known of a request with this number, once it is accepted.
 pub fn kept(number: u64) -> Last
     ensures { result ≡ kept number }
 {
-    Last { number: number }
+    Last { number }
 }
 
 // The head of four sizes, and zero elsewhere.
@@ -45,10 +36,10 @@ pub fn sizes_only(blocks: u32, pages: u32, logical: u32, slots: u32) -> Head
     ensures { result ≡ sizes_only blocks pages logical slots }
 {
     Head {
-        blocks: blocks,
-        pages: pages,
-        logical: logical,
-        slots: slots,
+        blocks,
+        pages,
+        logical,
+        slots,
         used: 0,
         reserve: 0,
         last: kept(0),
@@ -61,16 +52,14 @@ pub fn fill_of(blk: &[u32], b: usize) -> u32
     requires { HasBlock blk.now b }
     ensures { result ≡ fill_word blk.now b }
 {
-    let at = STRIDE * b;
-    blk[at]
+    block_at(blk, b).fill
 }
 
 pub fn valid_of(blk: &[u32], b: usize) -> u32
     requires { HasBlock blk.now b }
     ensures { result ≡ valid_word blk.now b }
 {
-    let at = STRIDE * b;
-    blk[at + 1]
+    block_at(blk, b).valid
 }
 
 // The record of block b.
@@ -86,6 +75,7 @@ pub fn block_at(blk: &[u32], b: usize) -> BlockRecord
 }
 
 // The record of block b becomes r.
+#[tactic(auto, unfolding(rules::specs::Blocks::put_block))]
 pub fn put_block(blk: &mut [u32], b: usize, r: BlockRecord)
     requires { HasBlock blk.old b }
     ensures { blk.new ≡ put_block blk.old b r }
@@ -111,6 +101,7 @@ pub fn slot_at(ws: &[u32], i: usize) -> Extent
 }
 
 // The extent in slot i becomes e.
+#[tactic(auto, unfolding(rules::specs::Extents::put_slot))]
 pub fn put_slot(ws: &mut [u32], i: usize, e: Extent)
     requires { 3 * i + 2 < length ws.old }
     ensures { ws.new ≡ put_slot ws.old i e }
@@ -127,11 +118,9 @@ pub fn put_slot(ws: &mut [u32], i: usize, e: Extent)
 pub fn all_are(ws: &[u32], x: u32) -> bool
     ensures { result ≡ all (length ws.now) (λ k. eqb (get_or ws.now k 0) x) }
 {
-    let mut off: u32 = 0;
-    let mut k: usize = 0;
-    while k < ws.len() {
-        off = off | (ws[k] ^ x);
-        k += 1;
+    let mut off = 0;
+    for w in ws {
+        off |= *w ^ x;
     }
     off == 0
 }
@@ -143,12 +132,10 @@ pub fn all_below(ws: &[u32], top: u32) -> bool
 {
     let last = top - 1;
     let mut ok = true;
-    let mut k: usize = 0;
-    while k < ws.len() {
-        if last < ws[k] {
+    for w in ws {
+        if last < *w {
             ok = false;
         }
-        k += 1;
     }
     ok
 }
@@ -158,25 +145,21 @@ pub fn all_rise(ws: &[u32], x: u32) -> bool
     requires { x + length ws.now ≤ 2 ^ 32 }
     ensures { result ≡ all (length ws.now) (λ k. eqb (get_or ws.now k 0) (x + k)) }
 {
-    let mut off: u32 = 0;
-    let mut k: usize = 0;
-    while k < ws.len() {
-        off = off | (ws[k] ^ (x + (k as u32)));
-        k += 1;
+    let mut off = 0;
+    for (k, w) in ws.iter().enumerate() {
+        off |= *w ^ (x + k as u32);
     }
     off == 0
 }
 
 // ---- stores
 
-// Every word becomes x.
+// Every word becomes x. With `fill` here the table that choosing::ranks_of gives back is copied by memcpy, and the library that C links may need memset alone.
 pub fn fill_with(ws: &mut [u32], x: u32)
     ensures { ws.new ≡ replicate (length ws.old) x }
 {
-    let mut k: usize = 0;
-    while k < ws.len() {
-        ws[k] = x;
-        k += 1;
+    for w in ws.iter_mut() {
+        *w = x;
     }
 }
 
@@ -185,22 +168,18 @@ pub fn fill_rise(ws: &mut [u32], x: u32)
     requires { x + length ws.old ≤ 2 ^ 32 }
     ensures { ws.new ≡ tabulate (length ws.old) (λ k. x + k) }
 {
-    let mut k: usize = 0;
-    while k < ws.len() {
-        ws[k] = x + (k as u32);
-        k += 1;
+    for (k, w) in ws.iter_mut().enumerate() {
+        *w = x + k as u32;
     }
 }
 
-// The words become those of `new`.
+// The words become those of `new`. `copy_from_slice` compiles to a call of memmove, and the library that C links may need memset alone (.ci/tests/install).
 pub fn put_words(ws: &mut [u32], new: &[u32])
     requires { length ws.old ≡ length new.now }
     ensures { ws.new ≡ new.now }
 {
-    let mut k: usize = 0;
-    while k < ws.len() {
-        ws[k] = new[k];
-        k += 1;
+    for (k, w) in new.iter().enumerate() {
+        ws[k] = *w;
     }
 }
 
@@ -209,11 +188,8 @@ pub fn shift_up(tail: &mut [u32], by: usize)
     requires { by ≤ length tail.old }
     ensures { tail.new ≡ take by tail.old ++ take (length tail.old - by) tail.old }
 {
-    let mut i = tail.len();
-    while by < i {
-        i -= 1;
-        tail[i] = tail[i - by];
-    }
+    let kept = tail.len() - by;
+    tail.copy_within(..kept, by);
 }
 
 // The first `by` words dropped, the others moved down in their place, and zeros behind them.
@@ -221,11 +197,7 @@ pub fn shift_down(tail: &mut [u32], by: usize)
     requires { by ≤ length tail.old }
     ensures { tail.new ≡ drop by tail.old ++ replicate by 0 }
 {
-    let len = tail.len();
-    let mut i = by;
-    while i < len {
-        tail[i - by] = tail[i];
-        i += 1;
-    }
-    fill_with(&mut tail[len - by..], 0);
+    let kept = tail.len() - by;
+    tail.copy_within(by.., 0);
+    fill_with(&mut tail[kept..], 0);
 }

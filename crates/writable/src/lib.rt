@@ -1,19 +1,19 @@
 #![tactic(auto)]
 
-// What a write of a sound state is refused for, and where its new extents meet the old ones: found first, for any range, then handed to the verdict and to
-// the change. Nothing is changed here.
+// What a write is refused for, and where its new extents meet the old ones: found first, for any range, then handed to the verdict and to the change. Nothing is
+// changed here.
 ghost use Rattle.std.specs.Prelude.{◌≡◌, ◌+◌, ◌≤◌};
 ghost use Rattle.rules.specs.Counting.{one};
-ghost use Rattle.rules.specs.Lent.{lent};
 ghost use Rattle.rules.specs.Device.{device_of};
 ghost use Rattle.rules.specs.Calls.{write_refusal};
-ghost use Rattle.laws.specs.Sound.{Shaped, SoundState};
+ghost use Rattle.state.specs.Seen.{lent_of};
 ghost use Rattle.refusals.specs.Refusals.{told, roomed};
 ghost use Rattle.writable.specs.Meeting.{Meets};
 
 use map::Sides;
-use refusals::Verdict;
-use rules::{Head, Refusal};
+use refusals::unless;
+use rules::Refusal;
+use state::sound::Sound;
 
 // Where a write's new extents meet the old ones: the sides of its range, the block that its pages start with, and whether the last extent
 // before it and the first new one are joinable.
@@ -24,18 +24,18 @@ pub struct Meeting {
     pub joined: bool,
 }
 
-// Found in any sound state. Whether they are joinable is told where the write is in range and finds its pages.
-pub fn meeting_of(h: Head, ext: &[u32], blk: &[u32], spare: &[u32], l: u32, n: u32) -> Meeting
-    requires { Shaped (lent h ext.now blk.now spare.now) × SoundState (lent h ext.now blk.now spare.now) }
-    ensures { Meets l n (lent h ext.now blk.now spare.now) result }
+// Whether they are joinable is told where the write is in range and finds its pages.
+pub fn meeting_of(s: Sound<'_>, l: u32, n: u32) -> Meeting
+    ensures { Meets l n (lent_of s.entry) result }
 {
-    let sides = map::around(ext, h.used as usize, l, n);
-    let start = starting::start_of(blk, h.blocks, h.pages, h.reserve, n);
-    let joined = map::joins_left(ext, sides.before, h.pages, l, start.page);
+    let h = s.head;
+    let sides = map::around(s.ext, h.used as usize, l, n);
+    let start = starting::start_of(s.blk, h.blocks, h.pages, h.reserve, n);
+    let joined = map::joins_left(s.ext, sides.before, h.pages, l, start.page);
     Meeting {
-        sides: sides,
+        sides,
         from: start.block,
-        joined: joined,
+        joined,
     }
 }
 
@@ -51,34 +51,23 @@ fn nodes_after(m: Meeting, k: u32) -> usize
     total
 }
 
-// 3 to 7 of a write, of a sound state, where it meets the extents so.
+// 3 to 7 of a write that meets the extents so.
 pub fn write_verdict(
-    h: Head,
-    ext: &[u32],
-    blk: &[u32],
-    spare: &[u32],
+    s: Sound<'_>,
     m: Meeting,
     number: u64,
     l: u32,
     n: u32,
     room: usize,
-) -> Verdict
-    requires { Shaped (lent h ext.now blk.now spare.now) × SoundState (lent h ext.now blk.now spare.now) × Meets l n (lent h ext.now blk.now spare.now) m }
-    ensures { told result ≡ write_refusal number l n (roomed room) (device_of (lent h ext.now blk.now spare.now)) }
+) -> Result<(), Refusal>
+    requires { Meets l n (lent_of s) m }
+    ensures { told result ≡ write_refusal number l n (roomed room) (device_of (lent_of s.entry)) }
 {
+    let h = s.head;
     let inside = refusals::in_range(h.logical, l, n) && n <= h.pages;
-    let asked = refusals::asked_verdict(h, inside, number);
-    if let Verdict::Refused(r) = asked {
-        return Verdict::Refused(r);
-    }
-    if blocks::totals_of(h, blk).free < n {
-        return Verdict::Refused(Refusal::NoPages);
-    }
-    let k = starting::pieces_of(blk, h.blocks, h.pages, h.reserve, m.from, n);
-    let nodes = nodes_after(m, k);
-    let fits = nodes <= h.slots as usize;
-    let listed = (k as usize) <= room / 3;
-    let many = refusals::unless(fits, Refusal::NoNodes);
-    let short = refusals::unless(listed, Refusal::OutShort);
-    refusals::first_of(many, short)
+    refusals::asked_verdict(h, inside, number)?;
+    unless(n <= blocks::totals_of(h, s.blk).free, Refusal::NoPages)?;
+    let k = starting::pieces_of(s.blk, h.blocks, h.pages, h.reserve, m.from, n);
+    unless(nodes_after(m, k) <= h.slots as usize, Refusal::NoNodes)?;
+    unless(k as usize <= room / 3, Refusal::OutShort)
 }

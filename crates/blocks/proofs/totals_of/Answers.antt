@@ -1,5 +1,6 @@
 -- One turn adds one block to each of the three sums.
-use Rattle.std.proofs.Common.{rules}
+use Rattle.std.proofs.Common.{ap, rules}
+use Rattle.rules.specs.declared.BlockRecord.{BlockRecord}
 use Rattle.blocks.specs.Totals.{summed_start, summed_step}
 use Rattle.blocks.proofs.totals_of.Goals as goal
 
@@ -8,5 +9,6 @@ loop-b-init c = summed_start _ _
 
 pub loop-b-preserved : goal.loop-b-preserved
 loop-b-preserved c =
-    summed_step _ _ _ _ _ _ _ _ _ c.requires (search rules) c.loop-b.invariant
-    c.fill_of-f.ensures c.valid_of-v.ensures c.room_of-free.ensures
+    let r = c.block_at-r in
+    summed_step _ _ _ _ _ _ r.result.fill r.result.valid _ c.requires (search rules) c.loop-b.invariant
+    (ap (λ (x : BlockRecord). x.fill) r.ensures) (ap (λ (x : BlockRecord). x.valid) r.ensures) c.room_of-free.ensures

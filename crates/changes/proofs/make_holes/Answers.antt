@@ -18,5 +18,5 @@ returns c =
     let closed = closed-holed s c.close.new.ext c.open_range-gap.ensures c.close.ensures in
     accepts (Call.trim a.number a.l a.n) s z [] [] _
     (trim-counts a.number a.l a.n s z)
-    (trim-leaves a.number a.l a.n s z _ _ _ _ closed c.kept-after.ensures)
+    (trim-leaves a.number a.l a.n s z _ _ _ _ closed c.kept-last.ensures)
     (trim-lists a.number a.l a.n s z)

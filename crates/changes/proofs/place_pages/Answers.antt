@@ -24,8 +24,8 @@ put_pieces-used-requires c =
     puttable a.number a.l a.n a.out.now (lent a.h a.ext.now a.blk.now a.spare.now) c.requires.0 a.m c.requires.1
     _ _ _ _ _ c.open_range-gap.ensures _ _ _ _ k.auto.blk k.ensures
 
-pub overflow_cast-left : goal.overflow_cast-left
-overflow_cast-left c =
+pub overflow_cast-head : goal.overflow_cast-head
+overflow_cast-head c =
     let a = c.args in
     let k = c.place-k in
     let few = write-few a.number a.l a.n a.out.now (lent a.h a.ext.now a.blk.now a.spare.now) c.requires.0 a.m c.requires.1
@@ -43,5 +43,5 @@ returns c =
     let put = c.put_pieces-used.ensures in
     accepts (Call.write a.number a.l a.n a.out.now) s z _ _ _
     (write-counts a.number a.l a.n a.out.now s z a.m meets _ _ _ _ _ gap _ _ _ _ k.auto.blk k.ensures _ _ put)
-    (write-leaves a.number a.l a.n a.out.now s z a.m meets _ _ _ _ _ gap _ _ _ _ k.auto.blk k.ensures _ _ put c.kept-left.result c.kept-left.ensures)
+    (write-leaves a.number a.l a.n a.out.now s z a.m meets _ _ _ _ _ gap _ _ _ _ k.auto.blk k.ensures _ _ put c.kept.result c.kept.ensures)
     (write-lists a.number a.l a.n a.out.now s z a.m meets _ _ _ _ _ gap _ _ _ _ k.auto.blk k.ensures _ _ put)

@@ -1,11 +1,11 @@
-use Rattle.std.proofs.Common.{◌<◌, length, get_or, refl, arith, length-set, rules}
+use Rattle.std.proofs.Common.{◌<◌, length, get_or, arith}
 use Rattle.choosing.specs.Ranks.{rises, rise_true, rise_false, rank_below}
 use Rattle.choosing.specs.Sources.{listed_start, listed-live, listed-other, listed-end}
 use Rattle.choosing.proofs.list_sources.Goals as goal
 use Rattle.choosing.proofs.list_sources.Goals.{then-rank-ranks, else-rank-ranks}
 
 pub loop-o-init : goal.loop-o-init
-loop-o-init c = (search rules, refl, listed_start c.args.n c.args.v (rises c.args.ranks.now) c.args.out.now)
+loop-o-init c = listed_start c.args.n c.args.v (rises c.args.ranks.now) c.args.out.now
 
 -- a page that is listed has room
 pub bounds-out-rank : goal.bounds-out-rank
@@ -21,17 +21,14 @@ loop-o-preserved c =
     let a = c.args in
     let ranks = a.ranks.now in
     let live = rises ranks in
-    let ranked = c.requires.0 in (
-      search rules,
-      elim c.if-rank-ranks.branch [ then-rank-ranks w ↦ rw w.out-is (simp length-set (omega arith)) | else-rank-ranks w ↦ rw w.out-is (omega arith) ],
-      elim c.if-rank-ranks.branch [
-        | then-rank-ranks w ↦
-            let rise = rise_true ranks l.o (omega arith) in
-            let room : get_or ranks l.o 0 < length a.out.now = omega (arith, rank_below a.n live ranks ranked l.o (omega arith) rise) in
-            rw w.out-is (listed-live a.n a.v live a.out.now l.o (get_or ranks l.o 0) l.out l.invariant.2 rise (ranked.rank l.o (omega arith)) room)
-        | else-rank-ranks w ↦ rw w.out-is (listed-other a.n a.v live a.out.now l.o l.out l.invariant.2 (rise_false ranks l.o (omega arith)))
-      ],
-    )
+    let ranked = c.requires.0 in
+    elim c.if-rank-ranks.branch [
+      | then-rank-ranks w ↦
+          let rise = rise_true ranks l.o (omega arith) in
+          let room : get_or ranks l.o 0 < length a.out.now = omega (arith, rank_below a.n live ranks ranked l.o (omega arith) rise) in
+          rw w.out-is (listed-live a.n a.v live a.out.now l.o (get_or ranks l.o 0) l.out l.invariant rise (ranked.rank l.o (omega arith)) room)
+      | else-rank-ranks w ↦ rw w.out-is (listed-other a.n a.v live a.out.now l.o l.out l.invariant (rise_false ranks l.o (omega arith)))
+    ]
 
 pub returns : goal.returns
-returns c = listed-end c.args.n c.args.v (rises c.args.ranks.now) c.args.out.now c.loop-o.o c.loop-o.out c.loop-o.invariant.2 (omega arith)
+returns c = listed-end c.args.n c.args.v (rises c.args.ranks.now) c.args.out.now c.loop-o.o c.loop-o.out c.loop-o.invariant (omega arith)

@@ -1,5 +1,4 @@
-use Rattle.std.proofs.Common.{◌+◌, ◌≤◌, sym, arith}
-use Rattle.rules.specs.Extents.{slot}
+use Rattle.std.proofs.Common.{◌+◌, ◌%◌, ◌≤◌, sym, arith}
 use Rattle.choosing.specs.Away.{away}
 use Rattle.choosing.specs.Ranks.{marked_else, marked-put}
 use Rattle.choosing.proofs.mark_slot.Goals as goal
@@ -7,24 +6,24 @@ use Rattle.choosing.proofs.mark_slot.Goals as goal
 pub returns-then-o-n : goal.returns-then-o-n
 returns-then-o-n c =
     let a = c.args in
-    let e = slot a.ext.now a.i in
-    let o = c.wrapping_sub_u32-o.result in
-    let begins = away a.n a.v e.physical o (omega arith) (omega arith) (omega arith) c.wrapping_sub_u32-o.ensures.value in
-    sym (marked_else e a.n a.v a.marks.now (begins.other (omega arith)))
+    let e = c.slot_at-e.result in
+    let begins = away a.n a.v e.physical (omega arith) (omega arith) (omega arith) in
+    rw (sym c.slot_at-e.ensures) (sym (marked_else e a.n a.v a.marks.now (begins.other (omega arith))))
 
-pub slice_bounds-fill_with-end : goal.slice_bounds-fill_with-end
-slice_bounds-fill_with-end c =
+pub slice_bounds-fill-end : goal.slice_bounds-fill-end
+slice_bounds-fill-end c =
     let a = c.args in
-    let e = slot a.ext.now a.i in
-    let o = c.wrapping_sub_u32-o.result in
-    let begins = away a.n a.v e.physical o (omega arith) (omega arith) (omega arith) c.wrapping_sub_u32-o.ensures.value in
-    omega (arith, begins.offset (omega arith))
+    let e = c.slot_at-e.result in
+    let begins = away a.n a.v e.physical (omega arith) (omega arith) (omega arith) in
+    let fits : e.physical % a.n + e.count ≤ a.n = rw c.slot_at-e.ensures c.requires.i_bound in
+    omega (arith, begins.offset (omega arith), fits)
 
 pub returns : goal.returns
 returns c =
     let a = c.args in
-    let e = slot a.ext.now a.i in
-    let o = c.wrapping_sub_u32-o.result in
-    let begins = away a.n a.v e.physical o (omega arith) (omega arith) (omega arith) c.wrapping_sub_u32-o.ensures.value in
-    let ends : o + e.count ≤ a.n = omega (arith, begins.offset (omega arith)) in
-    marked-put e a.n a.v o a.marks.now c.fill_with.new.ws (begins.block (omega arith)) (begins.offset (omega arith)) ends (omega arith) c.fill_with.ensures
+    let e = c.slot_at-e.result in
+    let begins = away a.n a.v e.physical (omega arith) (omega arith) (omega arith) in
+    let at = begins.offset (omega arith) in
+    let fits : e.physical % a.n + e.count ≤ a.n = rw c.slot_at-e.ensures c.requires.i_bound in
+    rw (sym c.slot_at-e.ensures) (marked-put e a.n a.v _ a.marks.now c.fill.new.self (begins.block (omega arith)) at (omega (arith, at, fits)) (omega arith)
+    (c.fill.ensures.after (λ y h. h)))

@@ -1,9 +1,9 @@
-use Rattle.std.proofs.Common.{◌≡◌, ◌-◌, ◌≤◌, length}
+use Rattle.std.proofs.Common.{◌-◌, ◌≤◌}
 use Rattle.choosing.specs.Ranks.{Marks}
 use Rattle.choosing.proofs.mark_slots.Given as goal
 
 abbrev pub invariant-loop-i : goal.invariant-loop-i
-invariant-loop-i l = (l.i ≤ l.used) × (length l.marks ≡ length l.initial.marks) × Marks l.ext l.i l.n l.v l.marks
+invariant-loop-i l = (l.i ≤ l.used) × Marks l.ext l.i l.n l.v l.marks
 
 abbrev pub decreases-loop-i : goal.decreases-loop-i
 decreases-loop-i l = l.used - l.i

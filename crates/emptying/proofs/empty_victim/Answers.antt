@@ -33,8 +33,8 @@ move_map-nodes-requires c =
     reclaim-map a.out.now (lent a.h a.ext.now a.blk.now a.spare.now) c.requires.ready a.v c.requires.v_value
     c.ranks_of-ranks.result c.ranks_of-ranks.ensures
 
-pub overflow_cast-after : goal.overflow_cast-after
-overflow_cast-after c =
+pub overflow_cast-head : goal.overflow_cast-head
+overflow_cast-head c =
     let a = c.args in
     let few = reclaim-few a.out.now (lent a.h a.ext.now a.blk.now a.spare.now) c.requires.ready a.v c.requires.v_value in
     omega (arith, few, c.move_map-nodes.ensures.0)

@@ -1,55 +1,45 @@
--- A read: refused by either verdict, or its pieces listed, as a view lists them.
-use Rattle.std.proofs.Common.{◌∙◌, arith}
-use Rattle.rules.specs.Lent.{lent}
-use Rattle.rules.specs.Device.{device_of}
-use Rattle.rules.specs.Calls.{Call, refused}
+use Rattle.std.proofs.Common.{◌≡◌, ◌∙◌, [], ◌∷◌, arith, refl, subst}
+use Rattle.rules.specs.Lent.{lent, Lent}
+use Rattle.rules.specs.Answers.{said, outcome}
+use Rattle.rules.specs.Calls.{Call, refused, call}
+use Rattle.state.specs.Seen.{lent_of, is-shaped, is-state}
+use Rattle.refusals.specs.Refusals.{handed, lent-refuses}
+use Rattle.refusals.specs.Accepts.{read-room}
 use Rattle.map.specs.Sound.{rows-sound}
-use Rattle.refusals.specs.Refusals.{lent-refuses}
-use Rattle.refusals.specs.Accepts.{read-room, ready-state, ready, refuses}
 use Rattle.views.specs.Reads.{read_answer}
+use Rattle.layer.specs.Held.{held-refuses, held-ready}
 use Rattle.layer.proofs.read.Goals as goal
 
-pub returns-in-Refused : goal.returns-in-Refused
+pub returns-in_err-s : goal.returns-in_err-s
 unfolding refused
-returns-in-Refused c =
+returns-in_err-s c =
     let a = c.args in
-    let s = lent a.h a.ext.now a.blk.now a.spare.now in
-    lent-refuses (Call.read a.l a.n a.out.now) s _ c.in-Refused.r c.lent_verdict-v.ensures c.in-Refused.is
+    rw (handed _ _ c.from_residual.ensures.1)
+    (lent-refuses (Call.read a.l a.n a.out.now) (lent a.h a.ext.now a.blk.now a.spare.now) _ _ c.lent_verdict.ensures.told c.in_err-s.was)
 
 pub first_after-first-requires : goal.first_after-first-requires
 first_after-first-requires c =
-    let a = c.args in
-    let s = lent a.h a.ext.now a.blk.now a.spare.now in
-    let held = ready-state (Call.read a.l a.n a.out.now) s _ c.lent_verdict-v.ensures c.in_default.is in
-    (omega (arith, held.0.extents, held.1.few), rows-sound s held.1)
+    let s = c.in_ok-s.s in
+    (omega (arith, (is-shaped s).extents, (is-state s).few), rows-sound _ (is-state s))
 
-pub read_verdict-w-requires : goal.read_verdict-w-requires
-read_verdict-w-requires c =
-    let a = c.args in
-    let s = lent a.h a.ext.now a.blk.now a.spare.now in
-    let held = ready-state (Call.read a.l a.n a.out.now) s _ c.lent_verdict-v.ensures c.in_default.is in
-    (held.0, held.1, c.first_after-first.ensures)
-
--- the second verdict is the rules'
-pub returns-in-Refused-w : goal.returns-in-Refused-w
+pub returns-in_err-read_verdict : goal.returns-in_err-read_verdict
 unfolding refused
-returns-in-Refused-w c =
+returns-in_err-read_verdict c =
     let a = c.args in
-    let s = lent a.h a.ext.now a.blk.now a.spare.now in
-    let judged = c.read_verdict-w.ensures ∙ read-room a.l a.n a.out.now (device_of s) in
-    refuses (Call.read a.l a.n a.out.now) s _ c.lent_verdict-v.ensures c.in_default.is _ judged c.in-Refused-w.r c.in-Refused-w.is
+    rw (handed _ _ c.from_residual-in_err-read_verdict.ensures.1)
+    (held-refuses (Call.read a.l a.n a.out.now) _ c.in_ok-s.s c.in_ok-s.ensures.seen _ (c.read_verdict.ensures ∙ read-room a.l a.n a.out.now _) _ c.in_err-read_verdict.was)
 
-pub list_pieces-k-requires : goal.list_pieces-k-requires
-list_pieces-k-requires c =
+pub list_pieces-count-requires : goal.list_pieces-count-requires
+list_pieces-count-requires c =
     let a = c.args in
-    let s = lent a.h a.ext.now a.blk.now a.spare.now in
-    let judged = c.read_verdict-w.ensures ∙ read-room a.l a.n a.out.now (device_of s) in
-    (ready (Call.read a.l a.n a.out.now) s _ c.lent_verdict-v.ensures c.in_default.is _ judged c.in_default-w.is, c.first_after-first.ensures)
+    let s = c.in_ok-s.s in
+    (held-ready (Call.read a.l a.n a.out.now) (lent_of s) s refl _ (c.read_verdict.ensures ∙ read-room a.l a.n a.out.now _) _ c.in_ok-read_verdict.was, c.first_after-first.ensures)
 
 pub returns : goal.returns
 returns c =
     let a = c.args in
-    let s = lent a.h a.ext.now a.blk.now a.spare.now in
-    let judged = c.read_verdict-w.ensures ∙ read-room a.l a.n a.out.now (device_of s) in
-    let accepted = ready (Call.read a.l a.n a.out.now) s _ c.lent_verdict-v.ensures c.in_default.is _ judged c.in_default-w.is in
-    read_answer a.l a.n a.out.now s accepted _ _ c.list_pieces-k.ensures
+    let s = c.in_ok-s.s in
+    let accepted = held-ready (Call.read a.l a.n a.out.now) (lent_of s) s refl _ (c.read_verdict.ensures ∙ read-room a.l a.n a.out.now _) _ c.in_ok-read_verdict.was in
+    let k = c.list_pieces-count in
+    subst (λ (x : Lent). outcome (said 0 (k.result ∷ []) x.head) x.extent_words x.block_words x.spare k.new.out ≡ call (Call.read a.l a.n a.out.now) x)
+    c.in_ok-s.ensures.seen (read_answer a.l a.n a.out.now (lent_of s) accepted _ _ k.ensures)

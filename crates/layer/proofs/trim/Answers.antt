@@ -1,45 +1,37 @@
-use Rattle.std.proofs.Common.{◌∙◌, arith}
-use Rattle.rules.specs.Lent.{lent}
-use Rattle.rules.specs.Device.{device_of}
+use Rattle.std.proofs.Common.{◌∙◌, ◌+◌, subst, arith}
+use Rattle.rules.specs.Lent.{lent, Lent, in_use}
 use Rattle.rules.specs.Calls.{Call, refused}
+use Rattle.state.specs.Seen.{is-shaped, is-state}
+use Rattle.refusals.specs.Refusals.{handed, lent-refuses}
+use Rattle.refusals.specs.Accepts.{trim-refusal}
 use Rattle.map.specs.Sound.{rows-sound}
-use Rattle.refusals.specs.Refusals.{lent-refuses}
-use Rattle.refusals.specs.Accepts.{trim-refusal, ready-state, ready, refuses}
+use Rattle.map.specs.Around.{Beside}
+use Rattle.layer.specs.Held.{held-refuses, held-ready}
 use Rattle.layer.proofs.trim.Goals as goal
 
-pub returns-in-Refused : goal.returns-in-Refused
+pub returns-in_err-s : goal.returns-in_err-s
 unfolding refused
-returns-in-Refused c =
+returns-in_err-s c =
     let a = c.args in
-    let s = lent a.h a.ext.now a.blk.now a.spare.now in
-    lent-refuses (Call.trim a.number a.l a.n) s _ c.in-Refused.r c.lent_verdict-v.ensures c.in-Refused.is
+    rw (handed _ _ c.from_residual.ensures.1)
+    (lent-refuses (Call.trim a.number a.l a.n) (lent a.h a.ext.now a.blk.now a.spare.now) _ _ c.lent_verdict.ensures.told c.in_err-s.was)
 
 pub around-sides-requires : goal.around-sides-requires
 around-sides-requires c =
-    let a = c.args in
-    let s = lent a.h a.ext.now a.blk.now a.spare.now in
-    let held = ready-state (Call.trim a.number a.l a.n) s _ c.lent_verdict-v.ensures c.in_default.is in
-    (omega (arith, held.0.extents, held.1.few), rows-sound s held.1)
+    let s = c.in_ok-s.s in
+    (omega (arith, (is-shaped s).extents, (is-state s).few), rows-sound _ (is-state s))
 
-pub trim_verdict-w-requires : goal.trim_verdict-w-requires
-trim_verdict-w-requires c =
-    let a = c.args in
-    let s = lent a.h a.ext.now a.blk.now a.spare.now in
-    let held = ready-state (Call.trim a.number a.l a.n) s _ c.lent_verdict-v.ensures c.in_default.is in
-    (held.0, held.1, c.around-sides.ensures)
-
--- the second verdict is the rules'
-pub returns-in-Refused-w : goal.returns-in-Refused-w
+pub returns-in_err-trim_verdict : goal.returns-in_err-trim_verdict
 unfolding refused
-returns-in-Refused-w c =
+returns-in_err-trim_verdict c =
     let a = c.args in
-    let s = lent a.h a.ext.now a.blk.now a.spare.now in
-    let judged = c.trim_verdict-w.ensures ∙ trim-refusal a.number a.l a.n (device_of s) in
-    refuses (Call.trim a.number a.l a.n) s _ c.lent_verdict-v.ensures c.in_default.is _ judged c.in-Refused-w.r c.in-Refused-w.is
+    rw (handed _ _ c.from_residual-in_err-trim_verdict.ensures.1)
+    (held-refuses (Call.trim a.number a.l a.n) _ c.in_ok-s.s c.in_ok-s.ensures.seen _ (c.trim_verdict.ensures ∙ trim-refusal a.number a.l a.n _) _ c.in_err-trim_verdict.was)
 
 pub make_holes-requires : goal.make_holes-requires
 make_holes-requires c =
     let a = c.args in
-    let s = lent a.h a.ext.now a.blk.now a.spare.now in
-    let judged = c.trim_verdict-w.ensures ∙ trim-refusal a.number a.l a.n (device_of s) in
-    (ready (Call.trim a.number a.l a.n) s _ c.lent_verdict-v.ensures c.in_default.is _ judged c.in_default-w.is, c.around-sides.ensures)
+    let e = c.in_ok-s.ensures.seen in (
+      held-ready (Call.trim a.number a.l a.n) _ c.in_ok-s.s e _ (c.trim_verdict.ensures ∙ trim-refusal a.number a.l a.n _) _ c.in_ok-trim_verdict.was,
+      subst (λ (x : Lent). Beside a.l (a.l + a.n) (in_use x) c.around-sides.result) e c.around-sides.ensures,
+    )

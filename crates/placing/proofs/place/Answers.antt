@@ -8,18 +8,10 @@ pub loop-b-init : goal.loop-b-init
 loop-b-init c = placing_start _ _ _ _ _ _ _ _ _ c.requires
 
 pub returns-then-done-want : goal.returns-then-done-want
-returns-then-done-want c =
-    let a = c.args in
-    let i = c.loop-b in
-    placing_done a.n a.reserve a.blocks a.from a.l a.want a.blk.now a.spare.now a.out.now c.requires
-    i.blk i.spare i.out i.b i.done i.k i.invariant (omega arith)
+returns-then-done-want c = placing_done _ _ _ _ _ _ _ _ _ c.requires _ _ _ _ _ _ c.loop-b.invariant (omega arith)
 
 pub place_in-k-requires : goal.place_in-k-requires
-place_in-k-requires c =
-    let a = c.args in
-    let i = c.loop-b in
-    placing_fits a.n a.reserve a.blocks a.from a.l a.want a.blk.now a.spare.now a.out.now c.requires
-    i.blk i.spare i.out i.b i.done i.k i.invariant c.room_in-m.result (omega arith) c.room_in-m.ensures
+place_in-k-requires c = placing_fits _ _ _ _ _ _ _ _ _ c.requires _ _ _ _ _ _ c.loop-b.invariant _ (omega arith) c.room_in-m.ensures
 
 pub overflow_add-done : goal.overflow_add-done
 overflow_add-done c =
@@ -29,16 +21,7 @@ overflow_add-done c =
 
 pub loop-b-preserved : goal.loop-b-preserved
 loop-b-preserved c =
-    let a = c.args in
-    let i = c.loop-b in
-    let p = c.place_in-k in
-    placing_step a.n a.reserve a.blocks a.from a.l a.want a.blk.now a.spare.now a.out.now c.requires
-    i.blk i.spare i.out i.b i.done i.k i.invariant c.room_in-m.result (omega arith) c.room_in-m.ensures
-    p.new.blk p.new.spare p.new.out p.result p.ensures
+    placing_step _ _ _ _ _ _ _ _ _ c.requires _ _ _ _ _ _ c.loop-b.invariant _ (omega arith) c.room_in-m.ensures _ _ _ _ c.place_in-k.ensures
 
 pub returns : goal.returns
-returns c =
-    let a = c.args in
-    let i = c.loop-b in
-    placing_end a.n a.reserve a.blocks a.from a.l a.want a.blk.now a.spare.now a.out.now c.requires
-    i.blk i.spare i.out i.b i.done i.k i.invariant (omega arith)
+returns c = placing_end _ _ _ _ _ _ _ _ _ c.requires _ _ _ _ _ _ c.loop-b.invariant (omega arith)

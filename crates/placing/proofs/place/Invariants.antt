@@ -1,9 +1,5 @@
-use Rattle.std.proofs.Common.{◌-◌}
 use Rattle.placing.specs.Way.{Placing}
 use Rattle.placing.proofs.place.Given as goal
 
 abbrev pub invariant-loop-b : goal.invariant-loop-b
 invariant-loop-b l = Placing l.n l.reserve l.blocks l.from l.l l.want l.initial.blk l.initial.spare l.initial.out l.blk l.spare l.out l.b l.done l.k
-
-abbrev pub decreases-loop-b : goal.decreases-loop-b
-decreases-loop-b l = l.blocks - l.b

@@ -1,9 +1,6 @@
-use Rattle.std.proofs.Common.{◌≡◌, ◌-◌, ◌≤◌, length}
-use Rattle.reading.specs.Told.{Telling}
+use Rattle.reading.specs.Pieces.{pieces_left}
+use Rattle.reading.specs.Told.{Told}
 use Rattle.reading.proofs.list_found.Given as goal
 
-abbrev pub invariant-loop-i : goal.invariant-loop-i
-invariant-loop-i l = (l.i ≤ l.used) × (l.pos ≤ l.e) × (length l.out ≡ length l.initial.out) × Telling l.l l.e l.ext l.used l.initial.out l.i l.pos l.k l.out
-
-abbrev pub decreases-loop-i : goal.decreases-loop-i
-decreases-loop-i l = l.used - l.i
+abbrev pub invariant-loop-piece : goal.invariant-loop-piece
+invariant-loop-piece l = Told (pieces_left l.initial.piece-iterator) l.initial.out l.yielded (pieces_left l.piece-iterator) l.k l.out

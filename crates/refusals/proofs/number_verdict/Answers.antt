@@ -1,9 +1,10 @@
-use Rattle.std.proofs.Common.{arith}
-use Rattle.refusals.specs.Numbered.{number_applied, number_new}
+use Rattle.std.proofs.Common.{rules, ap, ◌∙◌}
+use Rattle.rules.specs.Answers.{refuse}
+use Rattle.rules.specs.declared.Refusal.{Refusal}
+use Rattle.refusals.specs.Refusals.{below-not}
+use Rattle.refusals.specs.Numbered.{number_refusal}
 use Rattle.refusals.proofs.number_verdict.Goals as goal
 
-pub returns-then-number-h : goal.returns-then-number-h
-returns-then-number-h c = number_applied _ _ (omega arith)
-
 pub returns : goal.returns
-returns c = number_new c.args.h c.args.number (omega arith)
+unfolding number_refusal
+returns c = c.unless.ensures ∙ ap (λ t. refuse t Refusal.Applied 0) (search (rules, below-not))

@@ -28,8 +28,8 @@ loop-b-preserved c =
     let r = c.room_in-m in
     let h : i.b < a.blocks = omega arith in
     elim c.if-m-gt0.branch [
-      | then-m-gt0 w ↦ (omega arith, omega arith, omega (arith, many-some a.n a.reserve a.blocks a.blk.now i.b i.left r.result h r.ensures (omega arith)))
-      | else-m-gt0 w ↦ (omega arith, omega arith, omega (arith, many_skip a.n a.reserve a.blocks a.blk.now i.b i.left r.result h r.ensures (omega arith)))
+      | then-m-gt0 w ↦ (omega arith, omega (arith, many-some a.n a.reserve a.blocks a.blk.now i.b i.left r.result h r.ensures (omega arith)))
+      | else-m-gt0 w ↦ (omega arith, omega (arith, many_skip a.n a.reserve a.blocks a.blk.now i.b i.left r.result h r.ensures (omega arith)))
     ]
 
 pub returns : goal.returns

@@ -1,10 +1,6 @@
-use Rattle.std.proofs.Common.{◌≡◌, ◌+◌, ◌-◌, ◌≤◌}
+use Rattle.std.proofs.Common.{◌≡◌, ◌+◌, ◌≤◌}
 use Rattle.starting.specs.Rest.{how_many}
 use Rattle.starting.proofs.pieces_of.Given as goal
 
 abbrev pub invariant-loop-b : goal.invariant-loop-b
-invariant-loop-b l = (l.b ≤ l.blocks) × (l.count ≤ l.b)
-    × (l.count + how_many l.n l.reserve l.blocks l.blk l.b l.left ≡ how_many l.n l.reserve l.blocks l.blk l.from l.want)
-
-abbrev pub decreases-loop-b : goal.decreases-loop-b
-decreases-loop-b l = l.blocks - l.b
+invariant-loop-b l = (l.count ≤ l.b) × (l.count + how_many l.n l.reserve l.blocks l.blk l.b l.left ≡ how_many l.n l.reserve l.blocks l.blk l.from l.want)

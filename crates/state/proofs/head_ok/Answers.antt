@@ -1,10 +1,9 @@
 -- The scan of the unused slots decides.
-use Rattle.std.proofs.Common.{sym, ◌∙◌, arith}
+use Rattle.std.proofs.Common.{arith}
 use Rattle.state.specs.Sound.{headed_says}
 use Rattle.state.proofs.head_ok.Goals as goal
 
-pub returns : goal.returns
-returns c =
+pub returns-then-fill_of-eq0 : goal.returns-then-fill_of-eq0
+returns-then-fill_of-eq0 c =
     let a = c.args in
-    headed_says a.h a.ext.now a.blk.now c.all_are.result c.requires.0 (omega arith) (omega arith)
-    (sym c.fill_of.ensures ∙ c.if-fill_of-ne0.false) c.all_are.ensures
+    headed_says a.h a.ext.now a.blk.now c.all_are.result c.requires.0 (grind arith) (grind arith) (grind arith) c.all_are.ensures

@@ -1,4 +1,5 @@
-use Rattle.std.proofs.Common.{arith, rules}
+use Rattle.std.proofs.Common.{ap, arith, rules}
+use Rattle.rules.specs.declared.Extent.{Extent}
 use Rattle.map.specs.Halved.{first_below}
 use Rattle.striking.specs.Lowered.{lowered-start, lowered-more, lowered-end, lowered-enough}
 use Rattle.striking.proofs.lower.Goals as goal
@@ -11,23 +12,24 @@ loop-i-init c =
       lowered-start a.pages a.l a.e a.ext.now a.used a.first a.blk.now sound c.requires.1,
     )
 
-pub returns-then-e-ext : goal.returns-then-e-ext
-returns-then-e-ext c =
+pub returns-then-e-x : goal.returns-then-e-x
+returns-then-e-x c =
     let a = c.args in
     let o = c.loop-i in
-    lowered-end a.pages a.l a.e a.ext.now a.used o.i a.blk.now o.blk c.requires.0.sound o.invariant.0 (λ h. omega arith) o.invariant.1
+    lowered-end a.pages a.l a.e a.ext.now a.used o.i a.blk.now o.blk c.requires.0.sound o.invariant.0
+    (λ h. omega (arith, ap (λ (x : Extent). x.logical) c.slot_at-x.ensures)) o.invariant.1
 
 pub lower_slot-requires : goal.lower_slot-requires
 lower_slot-requires c =
     let a = c.args in
     let o = c.loop-i in
     let p = c.requires.0 in
-    let size = o.invariant.1.size in (
-      omega arith,
+    let size = o.invariant.1.size in
+    rw c.slot_at-x.ensures (
       p.some,
       omega (arith, p.inside o.i (omega arith)),
       lowered-enough a.pages a.l a.e a.ext.now a.used o.i a.blk.now o.blk p (omega arith) o.invariant.1,
     )
 
 pub loop-i-preserved : goal.loop-i-preserved
-loop-i-preserved c = (search rules, lowered-more _ _ _ _ _ _ _ _ c.loop-i.invariant.1 c.lower_slot.ensures)
+loop-i-preserved c = (search rules, lowered-more _ _ _ _ _ _ _ _ c.loop-i.invariant.1 (rw c.slot_at-x.ensures at c.lower_slot.ensures))

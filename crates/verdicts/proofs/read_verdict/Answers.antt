@@ -1,16 +1,30 @@
-use Rattle.std.proofs.Common.{◌≡◌, ◌+◌, ◌/◌, ◌∙◌, true, leb, length}
-use Rattle.rules.specs.Lent.{lent, in_use}
-use Rattle.reading.specs.Walk.{between}
-use Rattle.verdicts.specs.Reading.{read_first}
+use Rattle.std.proofs.Common.{◌∙◌, arith}
+use Rattle.state.specs.Seen.{lent_of, is-shaped, is-state}
+use Rattle.map.specs.Sound.{rows-sound}
+use Rattle.refusals.specs.Refusals.{handed_on}
+use Rattle.verdicts.specs.Reading.{read-range, read-short, read-within}
 use Rattle.verdicts.proofs.read_verdict.Goals as goal
-use Rattle.verdicts.proofs.read_verdict.Goals.{then-inside, else-inside}
+
+pub returns-in_err-unless : goal.returns-in_err-unless
+returns-in_err-unless c =
+    let a = c.args in
+    handed_on _ _ c.from_residual.ensures.1
+    ∙ read-range (lent_of a.s) (is-shaped a.s) (is-state a.s) a.l a.n a.room c.in_range.result c.in_range.ensures _ c.unless.ensures _ c.in_err-unless.was
+
+pub overflow_add-l : goal.overflow_add-l
+overflow_add-l c =
+    let a = c.args in
+    omega (arith, read-within (lent_of a.s) (is-shaped a.s) (is-state a.s) a.l a.n a.room c.in_range.result c.in_range.ensures _ _ c.unless.ensures c.in_ok-unless.was)
+
+pub count_found-found-requires : goal.count_found-found-requires
+count_found-found-requires c =
+    let a = c.args in
+    let h = is-shaped a.s in
+    let z = is-state a.s in
+    (omega (arith, h.extents, z.few), omega arith, rows-sound (lent_of a.s) z, c.requires)
 
 pub returns : goal.returns
 returns c =
     let a = c.args in
-    let s = lent a.h a.ext.now a.blk.now a.spare.now in
-    let looked : c.in_range-inside.result ≡ true → c.if-inside.fits ≡ leb (length (between a.l (a.l + a.n) (in_use s))) (a.room / 3) =
-    λ e. elim c.if-inside.branch [ then-inside w ↦ cc | else-inside w ↦ cc ] in
-    c.first_of.ensures
-    ∙ read_first s c.requires.0 c.requires.1 a.l a.n a.room c.in_range-inside.result c.if-inside.fits c.unless-range.result c.unless-short.result
-    c.in_range-inside.ensures looked c.unless-range.ensures c.unless-short.ensures
+    read-short (lent_of a.s) (is-shaped a.s) (is-state a.s) a.l a.n a.room c.in_range.result c.in_range.ensures
+    _ _ _ _ c.unless.ensures c.in_ok-unless.was c.count_found-found.ensures c.unless-2.ensures

@@ -1,25 +1,23 @@
 use Rattle.std.proofs.Common.{◌∙◌}
-use Rattle.rules.specs.Lent.{lent}
-use Rattle.verdicts.specs.Reclaiming.{victim_record, reclaim-first}
+use Rattle.state.specs.Seen.{lent_of, is-shaped, is-state}
+use Rattle.refusals.specs.Refusals.{handed_on}
+use Rattle.verdicts.specs.Reclaiming.{victim_record, reclaim-nothing, reclaim-short}
 use Rattle.verdicts.proofs.reclaim_verdict.Goals as goal
 
 pub stale_of-stale-requires : goal.stale_of-stale-requires
-stale_of-stale-requires c =
-    let a = c.args in
-    let z = c.requires in
-    victim_record (lent a.h a.ext.now a.blk.now a.spare.now) z.shaped.0 z.shaped.1 a.v z.v_value
+stale_of-stale-requires c = let a = c.args in victim_record (lent_of a.s) (is-shaped a.s) (is-state a.s) a.v c.requires
 
 pub valid_of-copies-requires : goal.valid_of-copies-requires
-valid_of-copies-requires c =
+valid_of-copies-requires c = let a = c.args in (victim_record (lent_of a.s) (is-shaped a.s) (is-state a.s) a.v c.requires).0
+
+pub returns-in_err-unless : goal.returns-in_err-unless
+returns-in_err-unless c =
     let a = c.args in
-    let z = c.requires in
-    (victim_record (lent a.h a.ext.now a.blk.now a.spare.now) z.shaped.0 z.shaped.1 a.v z.v_value).0
+    handed_on _ _ c.from_residual.ensures.1
+    ∙ reclaim-nothing (lent_of a.s) (is-shaped a.s) (is-state a.s) a.v c.requires a.room _ c.stale_of-stale.ensures _ c.unless.ensures _ c.in_err-unless.was
 
 pub returns : goal.returns
 returns c =
     let a = c.args in
-    let z = c.requires in
-    c.first_of.ensures
-    ∙ reclaim-first (lent a.h a.ext.now a.blk.now a.spare.now) z.shaped.0 z.shaped.1 a.v z.v_value a.room
-    c.stale_of-stale.result c.valid_of-copies.result c.unless-nothing.result c.unless-short.result
-    c.stale_of-stale.ensures c.valid_of-copies.ensures c.unless-nothing.ensures c.unless-short.ensures
+    reclaim-short (lent_of a.s) (is-shaped a.s) (is-state a.s) a.v c.requires a.room _ c.stale_of-stale.ensures _ c.unless.ensures _ c.in_ok-unless.was
+    _ _ c.valid_of-copies.ensures c.unless-2.ensures

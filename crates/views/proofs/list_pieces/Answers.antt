@@ -1,19 +1,19 @@
 use Rattle.std.proofs.Common.{arith}
-use Rattle.rules.specs.Lent.{lent}
+use Rattle.state.specs.Seen.{lent_of}
 use Rattle.views.specs.Reads.{read-inside, read_fits, read-few}
 use Rattle.views.proofs.list_pieces.Goals as goal
 
 pub overflow_add-l : goal.overflow_add-l
 overflow_add-l c =
     let a = c.args in
-    omega (arith, read-inside a.l a.n a.out.now (lent a.h a.ext.now a.blk.now a.spare.now) c.requires.0)
+    omega (arith, read-inside a.l a.n a.out.now (lent_of a.s) c.requires.0)
 
 pub list_found-requires-clause-used_in_bounds_2 : goal.list_found-requires-clause-used_in_bounds_2
 list_found-requires-clause-used_in_bounds_2 c =
     let a = c.args in
-    read_fits a.l a.n a.out.now (lent a.h a.ext.now a.blk.now a.spare.now) c.requires.0
+    read_fits a.l a.n a.out.now (lent_of a.s) c.requires.0
 
 pub overflow_cast-result : goal.overflow_cast-result
 overflow_cast-result c =
     let a = c.args in
-    omega (arith, read-few a.l a.n a.out.now (lent a.h a.ext.now a.blk.now a.spare.now) c.requires.0, c.list_found.ensures.0)
+    omega (arith, read-few a.l a.n a.out.now (lent_of a.s) c.requires.0, c.list_found.ensures.0)

@@ -3,8 +3,8 @@ use Rattle.std.proofs.Common.{arith}
 use Rattle.windows.specs.Window.{home-last, home-many, home-few}
 use Rattle.windows.proofs.home_ok.Goals as goal
 
-pub returns-then-from-near : goal.returns-then-from-near
-returns-then-from-near c = home-last c.requires c.all_rise.result (omega arith) c.all_rise.ensures
+pub returns-then-to-spare : goal.returns-then-to-spare
+returns-then-to-spare c = home-last c.requires c.all_rise.result (omega arith) c.all_rise.ensures
 
 pub returns-then-many-gt-W : goal.returns-then-many-gt-W
 returns-then-many-gt-W c = home-many c.requires c.windows_ok.result (omega arith) c.windows_ok.ensures

@@ -1,9 +1,6 @@
-use Rattle.std.proofs.Common.{◌-◌, ◌≡◌, ◌≤◌, eqb, length, get_or}
+use Rattle.std.proofs.Common.{◌≡◌, eqb, get_or}
 use Rattle.rules.specs.Counting.{all}
 use Rattle.words.proofs.all_are.Given as goal
 
-abbrev pub invariant-loop-k : goal.invariant-loop-k
-invariant-loop-k l = (l.k ≤ length l.ws) × (eqb l.off 0 ≡ all l.k (λ i. eqb (get_or l.ws i 0) l.x))
-
-abbrev pub decreases-loop-k : goal.decreases-loop-k
-decreases-loop-k l = length l.ws - l.k
+abbrev pub invariant-loop-w : goal.invariant-loop-w
+invariant-loop-w l = eqb l.off 0 ≡ all l.w-index (λ i. eqb (get_or l.ws i 0) l.x)

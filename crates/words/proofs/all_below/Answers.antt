@@ -1,21 +1,16 @@
-use Rattle.std.proofs.Common.{get_or, arith, rules, lt-ltb, le-ltb}
-use Rattle.words.specs.Scan.{scan-none, scan_fails, scan-goes, scan-end}
+use Rattle.std.proofs.Common.{get_or, arith, lt-ltb, le-ltb}
+use Rattle.words.specs.Scan.{scan-none, scan_fails, scan-goes}
 use Rattle.words.proofs.all_below.Goals as goal
-use Rattle.words.proofs.all_below.Goals.{then-last-ws, else-last-ws}
+use Rattle.words.proofs.all_below.Goals.{then-last-w, else-last-w}
 
-pub loop-k-init : goal.loop-k-init
-loop-k-init c = (search rules, scan-none _)
+pub loop-w-init : goal.loop-w-init
+loop-w-init c = scan-none _
 
-pub loop-k-preserved : goal.loop-k-preserved
-loop-k-preserved c =
-    let o = c.loop-k in
-    let a = c.args in (
-      search rules,
-      elim c.if-last-ws.branch [
-        | then-last-ws w ↦ rw w.ok-is (scan_fails _ _ (le-ltb (get_or a.ws.now o.k 0) a.top (omega arith)))
-        | else-last-ws w ↦ rw w.ok-is (scan-goes _ _ _ o.invariant.1 (lt-ltb (get_or a.ws.now o.k 0) a.top (omega arith)))
-      ],
-    )
-
-pub returns : goal.returns
-returns c = scan-end _ _ _ _ c.loop-k.invariant.1 (omega arith)
+pub loop-w-preserved : goal.loop-w-preserved
+loop-w-preserved c =
+    let o = c.loop-w in
+    let a = c.args in
+    elim c.if-last-w.branch [
+      | then-last-w w ↦ rw w.ok-is (scan_fails _ _ (le-ltb (get_or a.ws.now o.w-index 0) a.top (omega arith)))
+      | else-last-w w ↦ rw w.ok-is (scan-goes _ _ _ o.invariant (lt-ltb (get_or a.ws.now o.w-index 0) a.top (omega arith)))
+    ]

@@ -1,9 +1,5 @@
-use Rattle.std.proofs.Common.{◌-◌, ◌≡◌, ◌≤◌, length, get_or}
-use Rattle.words.specs.Store.{stored}
+use Rattle.std.proofs.Common.{◌≡◌, ℕ, ◌<◌, get_or}
 use Rattle.words.proofs.put_words.Given as goal
 
 abbrev pub invariant-loop-k : goal.invariant-loop-k
-invariant-loop-k l = (l.k ≤ length l.initial.ws) × (length l.ws ≡ length l.initial.ws) × (l.ws ≡ stored (λ i. get_or l.new i 0) l.k l.initial.ws)
-
-abbrev pub decreases-loop-k : goal.decreases-loop-k
-decreases-loop-k l = length l.initial.ws - l.k
+invariant-loop-k l = (j : ℕ) → j < l.k → get_or l.ws j 0 ≡ get_or l.new j 0

@@ -1,19 +1,31 @@
 use Rattle.std.proofs.Common.{arith}
-use Rattle.rules.specs.Lent.{lent}
+use Rattle.state.specs.Seen.{lent_of, is-shaped, is-state}
 use Rattle.map.specs.Around.{starts_le}
+use Rattle.map.specs.Sound.{rows-sound}
 use Rattle.writable.specs.Meeting.{first-page-is, joined_is}
 use Rattle.writable.proofs.meeting_of.Goals as goal
+
+pub around-sides-requires : goal.around-sides-requires
+around-sides-requires c =
+    let s = c.args.s in
+    (omega (arith, (is-shaped s).extents, (is-state s).few), rows-sound (lent_of s) (is-state s))
+
+pub start_of-start-requires : goal.start_of-start-requires
+start_of-start-requires c =
+    let s = c.args.s in
+    let h = is-shaped s in
+    record { size = omega (arith, h.blocks); blocks-few = h.sizes.b-high; pages-few = h.sizes.n-high; full = (is-state s).full }
 
 pub joins_left-joined-requires : goal.joins_left-joined-requires
 joins_left-joined-requires c =
     let a = c.args in
-    let few = starts_le a.l a.ext.now a.h.used _ c.around-sides.ensures.before in
-    (omega (arith, few, c.requires.0.extents, c.requires.1.few), c.requires.0.sizes.n-low)
+    let few = starts_le a.l a.s.ext.now a.s.head.used _ c.around-sides.ensures.before in
+    (omega (arith, few, (is-shaped a.s).extents, (is-state a.s).few), (is-shaped a.s).sizes.n-low)
 
 pub returns : goal.returns
 returns c =
     let a = c.args in
-    let s = lent a.h a.ext.now a.blk.now a.spare.now in
+    let s = lent_of a.s in
     let start = c.start_of-start in
     record {
       sides = c.around-sides.ensures;
