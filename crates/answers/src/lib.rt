@@ -1,6 +1,7 @@
 #![tactic(auto)]
 
 // What C and Rust are answered: a struct by value, made of what the layer answers a call on head h. It is promised to say the same.
+// C has no Result, so here a refusal is a number again.
 ghost use Rattle.answers.specs.Said.{said_done, said_listed, said_counts};
 
 use rules::{Counted, Head, Listed, Refusal};

@@ -16,10 +16,10 @@ fn block_ok(fill: u32, part: &[u32], top: u32) -> bool
     ensures { Says result (Labels fill top part.now) }
 {
     let f = fill as usize;
-    f <= part.len() && words::all_below(&part[..f], top) && words::all_are(&part[f..], u32::MAX)
+    f <= part.len() && words::all_below(&part[..f], top) && words::all_are(&part[f..], words::NONE)
 }
 
-// Rule 3 for every block.
+// Rule 3 for every block. Numbers, not a `Head`: `Framed` asks for no number of blocks or pages that 32 bits hold.
 pub fn labels_ok(blk: &[u32], spare: &[u32], blocks: usize, n: usize, top: u32) -> bool
     requires { Framed blk.now spare.now blocks n top }
     ensures { Says result ((b : ℕ) → b < blocks → Block blk.now spare.now n top b) }

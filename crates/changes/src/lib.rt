@@ -1,7 +1,7 @@
 #![tactic(auto)]
 
 // What a trim and a write change once nothing refuses them. That nothing does is required here (`Ready`), with what was found on the way to it; the answer
-// and the words are promised as the rules give them.
+// and the words are promised as the rules give them. The parts of the words come apart, as the layer is lent them: a trim reads the spare areas and a write changes them.
 ghost use Rattle.std.specs.Prelude.{◌≡◌, [], ◌∷◌, ◌+◌};
 ghost use Rattle.rules.specs.Lent.{lent, in_use};
 ghost use Rattle.rules.specs.Answers.{said, outcome};
@@ -76,7 +76,7 @@ pub fn place_pages(
         ≡ call (Call.write number l n out.old) (lent h ext.old blk.old spare.old) }
 {
     let gap = open_range(h, ext, blk, spare, m.sides, l, n);
-    let k = placing::place(blk, spare, out, h.blocks, h.pages, h.reserve, m.from, l, n);
+    let k = placing::place(h, blk, spare, out, m.from, l, n);
     let used = putting::put_pieces(ext, gap, m.joined, out, k as usize);
     let head = Head {
         used: used as u32,

@@ -1,11 +1,11 @@
 #![tactic(auto)]
 
 // What a reclaim takes: its victim, the rank of each of the victim's mapped pages, which is where it goes in the reserve, and the list of copies. The records
-// and extents are assumed to be those of a sound state; but for the answer buffer nothing is changed.
+// and extents are assumed to be those of a sound state; but for the answer buffer nothing is changed. No `InUse` is asked for: no order of the slots is needed here.
 ghost use Rattle.std.specs.Prelude.{◌≡◌, ℕ, ◌+◌, ◌*◌, ◌%◌, ◌<◌, ◌≤◌, length, slice_index};
 ghost use Rattle.rules.specs.Counting.{most, count};
 ghost use Rattle.rules.specs.Blocks.{stride, fill_word, valid_word, HasBlock};
-ghost use Rattle.rules.specs.Extents.{none, slot, slots_from};
+ghost use Rattle.rules.specs.Extents.{slot, slots_from};
 ghost use Rattle.rules.specs.Calls.{over};
 ghost use Rattle.words.specs.Store.{stored};
 ghost use Rattle.choosing.specs.Stale.{stale_word};
@@ -13,6 +13,10 @@ ghost use Rattle.choosing.specs.Covered.{covered};
 ghost use Rattle.choosing.specs.Over.{Elsewhere};
 ghost use Rattle.choosing.specs.Ranks.{Ranks, rises, marked_in, Marks, sums};
 ghost use Rattle.choosing.specs.Sources.{live_pages};
+
+pub mod block;
+
+use block::Block;
 
 // Slots that are tested at a time.
 const W: usize = 16;
@@ -25,7 +29,7 @@ pub fn stale_of(blk: &[u32], b: usize) -> u32
     r.fill - r.valid
 }
 
-// The block with most stale pages, the lowest of these.
+// The block with most stale pages, the lowest of these. The compare is written out: the edits tie_to_the_highest and fewest_valid are mistakes in it.
 pub fn victim_of(blk: &[u32], blocks: u32) -> u32
     requires { (stride * blocks ≤ length blk.now) × ((b : ℕ) → b < blocks → valid_word blk.now b ≤ fill_word blk.now b) }
     ensures { result ≡ most blocks (stale_word blk.now) }
@@ -42,15 +46,15 @@ pub fn victim_of(blk: &[u32], blocks: u32) -> u32
     v
 }
 
-// Ones at the offsets of slot i, where it lies in block v. A page before the block is far behind it once the difference wraps, so one test tells.
-fn mark_slot(marks: &mut [u32], ext: &[u32], i: usize, n: u32, v: u32)
-    requires i_in_bounds { (3 * i + 2 < length ext.now) × (1 ≤ n) × (n ≤ length marks.old) × (v * n + n ≤ none) }
-    requires i_bound { (slot ext.now i).physical % n + (slot ext.now i).count ≤ n }
-    ensures { marks.new ≡ marked_in (slot ext.now i) n v marks.old }
+// Ones at the offsets of slot i, where it lies in block v.
+fn mark_slot(marks: &mut [u32], ext: &[u32], i: usize, v: Block)
+    requires i_in_bounds { (3 * i + 2 < length ext.now) × (1 ≤ v.pages) × (v.pages ≤ length marks.old) }
+    requires i_bound { (slot ext.now i).physical % v.pages + (slot ext.now i).count ≤ v.pages }
+    ensures { marks.new ≡ marked_in (slot ext.now i) v.pages v.number marks.old }
 {
     let e = words::slot_at(ext, i);
-    let o = e.physical.wrapping_sub(v * n);
-    if o >= n {
+    let o = v.offset_of(e.physical);
+    if o >= v.pages {
         return;
     }
     let from = o as usize;
@@ -58,46 +62,46 @@ fn mark_slot(marks: &mut [u32], ext: &[u32], i: usize, n: u32, v: u32)
 }
 
 // Of the W slots in these words W where none lies in block v, or 0. The least of their differences tells, without an exit: they are taken in vectors.
-fn free_of(ws: &[u32], n: u32, v: u32) -> usize
-    requires { (48 ≤ length ws.now) × (1 ≤ n) × (v * n + n ≤ none) }
-    ensures { (result ≤ 16) × Elsewhere ws.now 0 result n v }
+fn free_of(ws: &[u32], v: Block) -> usize
+    requires { (48 ≤ length ws.now) × (1 ≤ v.pages) }
+    ensures { (result ≤ 16) × Elsewhere ws.now 0 result v.pages v.number }
 {
     let mut least = u32::MAX;
     for k in 0..W {
-        least = least.min(ws[3 * k + 1].wrapping_sub(v * n));
+        least = least.min(v.offset_of(ws[3 * k + 1]));
     }
-    if least < n {
+    if least < v.pages {
         return 0;
     }
     W
 }
 
 // How many slots from slot i on may be passed over: W where none of them lies in block v, or none. Only every W-th slot asks, so no slot is tested more than twice.
-pub fn passed_over(ext: &[u32], used: usize, i: usize, n: u32, v: u32) -> usize
-    requires { (3 * used ≤ length ext.now) × (i ≤ used) × (1 ≤ n) × (v * n + n ≤ none) }
-    ensures { (i + result ≤ used) × Elsewhere ext.now i result n v }
+pub fn passed_over(ext: &[u32], used: usize, i: usize, v: Block) -> usize
+    requires { (3 * used ≤ length ext.now) × (i ≤ used) × (1 ≤ v.pages) }
+    ensures { (i + result ≤ used) × Elsewhere ext.now i result v.pages v.number }
 {
     if i % W > 0 || used < i + W {
         return 0;
     }
     let at = 3 * i;
-    free_of(&ext[at..at + 3 * W], n, v)
+    free_of(&ext[at..at + 3 * W], v)
 }
 
 // Ones at the offsets of the mapped pages of block v. No `for`: i goes on by one slot, or by as many as are passed over.
-fn mark_slots(marks: &mut [u32], ext: &[u32], used: usize, n: u32, v: u32)
-    requires used_in_bounds { (3 * used ≤ length ext.now) × (1 ≤ n) × (n ≤ length marks.old) × (v * n + n ≤ none) }
-    requires by_index { (i : ℕ) → i < used → (slot ext.now i).physical % n + (slot ext.now i).count ≤ n }
-    requires by_index_2 { (o : ℕ) → o < n → slice_index marks.old o ≡ 0 }
-    ensures { Marks ext.now used n v marks.new }
+fn mark_slots(marks: &mut [u32], ext: &[u32], used: usize, v: Block)
+    requires used_in_bounds { (3 * used ≤ length ext.now) × (1 ≤ v.pages) × (v.pages ≤ length marks.old) }
+    requires by_index { (i : ℕ) → i < used → (slot ext.now i).physical % v.pages + (slot ext.now i).count ≤ v.pages }
+    requires by_index_2 { (o : ℕ) → o < v.pages → slice_index marks.old o ≡ 0 }
+    ensures { Marks ext.now used v.pages v.number marks.new }
 {
     let mut i: usize = 0;
     while i < used {
-        let free = passed_over(ext, used, i, n, v);
+        let free = passed_over(ext, used, i, v);
         if free > 0 {
             i += free;
         } else {
-            mark_slot(marks, ext, i, n, v);
+            mark_slot(marks, ext, i, v);
             i += 1;
         }
     }
@@ -117,28 +121,28 @@ fn add_up(marks: &mut [u32], n: usize)
     marks[n] = k;
 }
 
-// The rank of each offset of block v, and at n the number of its mapped pages.
-pub fn ranks_of(ext: &[u32], used: usize, n: u32, v: u32) -> [u32; 257]
-    requires used_in_bounds { (3 * used ≤ length ext.now) × (1 ≤ n) × (n ≤ 256) × (v * n + n ≤ none) }
-    requires by_index { (i : ℕ) → i < used → (slot ext.now i).physical % n + (slot ext.now i).count ≤ n }
-    ensures { Ranks n (covered (slots_from ext.now 0 used) n v) result }
+// The rank of each offset of block v, and behind the last the number of its mapped pages.
+pub fn ranks_of(ext: &[u32], used: usize, v: Block) -> [u32; 257]
+    requires used_in_bounds { (3 * used ≤ length ext.now) × (1 ≤ v.pages) × (v.pages ≤ 256) }
+    requires by_index { (i : ℕ) → i < used → (slot ext.now i).physical % v.pages + (slot ext.now i).count ≤ v.pages }
+    ensures { Ranks v.pages (covered (slots_from ext.now 0 used) v.pages v.number) result }
 {
     let mut ranks = [0u32; 257];
-    mark_slots(&mut ranks, ext, used, n, v);
-    add_up(&mut ranks, n as usize);
+    mark_slots(&mut ranks, ext, used, v);
+    add_up(&mut ranks, v.pages as usize);
     ranks
 }
 
 // The mapped pages of block v, in physical order: offset o is mapped where the rank rises behind it.
-pub fn list_sources(ranks: &[u32], n: u32, v: u32, out: &mut [u32])
-    requires { Ranks n (rises ranks.now) ranks.now × (count n (rises ranks.now) ≤ length out.old) × (v * n + n ≤ none) }
-    ensures { out.new ≡ over (live_pages n v (rises ranks.now)) out.old }
+pub fn list_sources(ranks: &[u32], v: Block, out: &mut [u32])
+    requires { Ranks v.pages (rises ranks.now) ranks.now × (count v.pages (rises ranks.now) ≤ length out.old) }
+    ensures { out.new ≡ over (live_pages v.pages v.number (rises ranks.now)) out.old }
 {
-    for o in 0..n {
+    for o in 0..v.pages {
         let at = o as usize;
         let rank = ranks[at];
         if rank < ranks[at + 1] {
-            out[rank as usize] = v * n + o;
+            out[rank as usize] = v.first() + o;
         }
     }
 }

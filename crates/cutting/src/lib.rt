@@ -1,7 +1,8 @@
 #![tactic(auto)]
 
 // A range cut out of the extents, in place. Assumed are the extents of a sound state, the sides of the range among them and a slot for what is taken
-// apart; promised are the extents without the range, but for a gap among them that is still to be closed or filled.
+// apart; promised are the extents without the range, but for a gap among them that is still to be closed or filled. Words and number of slots come apart, not as an
+// `InUse`: both change, and with a gap among them the slots are no extents in order.
 ghost use Rattle.std.specs.Prelude.{◌≡◌, ℕ, ◌+◌, ◌*◌, ◌<◌, ◌≤◌, length};
 ghost use Rattle.rules.specs.Extents.{end, slot, slots_from};
 ghost use Rattle.laws.specs.Cut.{cut};

@@ -2,12 +2,13 @@
 
 // The six calls on lent words. Each takes any head, any words of any lengths and any request, and promises one equality: the answer and every lent word afterwards
 // are what the rules give of what was lent. Nothing is changed before nothing refuses the request: until then a trim, a write and a reclaim look at the words
-// through shared borrows.
+// through shared borrows. The head and the parts of the words come apart, as C lends them.
 ghost use Rattle.std.specs.Prelude.{◌≡◌, []};
 ghost use Rattle.rules.specs.Lent.{lent};
 ghost use Rattle.rules.specs.Answers.{outcome, done, listed, counted};
 ghost use Rattle.rules.specs.Calls.{Call, call, sizes_only, fresh};
 
+use map::in_use::InUse;
 use refusals::unless;
 use rules::{Counted, Head, Listed, Refusal};
 use verdicts::lent_verdict;
@@ -52,7 +53,7 @@ pub fn read(
         ≡ call (Call.read l n out.old) (lent h ext.now blk.now spare.now) }
 {
     let s = lent_verdict(h, ext, blk, spare)?;
-    let first = map::first_after(s.ext, s.head.used as usize, l as u64);
+    let first = InUse::of(s).first_after(l as u64);
     verdicts::read_verdict(s, first, l, n, out.len())?;
     let count = views::list_pieces(s, first, l, n, out);
     Ok(Listed { count, head: h })
@@ -70,7 +71,7 @@ pub fn trim(
     ensures { outcome (done h result) ext.new blk.new spare.now [] ≡ call (Call.trim number l n) (lent h ext.old blk.old spare.now) }
 {
     let s = lent_verdict(h, ext, blk, spare)?;
-    let sides = map::around(s.ext, s.head.used as usize, l, n);
+    let sides = InUse::of(s).around(l, n);
     verdicts::trim_verdict(s, sides, number, l, n)?;
     Ok(changes::make_holes(h, ext, blk, spare, sides, number, l, n))
 }

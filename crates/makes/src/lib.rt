@@ -23,7 +23,7 @@ pub fn make_fresh(
 {
     words::fill_with(ext, 0);
     words::fill_with(blk, 0);
-    words::fill_with(spare, u32::MAX);
+    words::fill_with(spare, words::NONE);
     Head {
         reserve: b - 1,
         ..words::sizes_only(b, n, l, m)

@@ -1,22 +1,18 @@
 -- Where a range meets the extents in use: the numbers of `Counts`, and the last extent before a slot.
-use Prim.Native.Nat.{ℕ, zero, suc, ◌+◌, ◌-◌, ◌/◌, ◌≤◌, ◌<◌}
+use Prim.Native.Nat.{ℕ, zero, suc, ◌+◌, ◌-◌, ◌≤◌, ◌<◌}
 use Rattle.std.specs.Prelude.{◌≡◌, Bool, List, ltb, length}
 use Rattle.std.proofs.Math.Path.{refl, sym, ap}
-use Rattle.std.proofs.Common.{◌∙◌, eq-eqb}
+use Rattle.std.proofs.Common.{◌∙◌}
 use Rattle.std.proofs.Math.Bool.{false}
 use native.Mathlib.Omega.{arith}
-use Rattle.std.proofs.Math.Dec.{eqb}
-use Rattle.std.proofs.lemmas.Bool.{eqb-true}
 use Rattle.rules.specs.Counting.{one}
 use Rattle.rules.specs.Extents.{none, end, joinable, slot, slots_from}
 use Rattle.rules.specs.Lent.{Lent, in_use}
 use Rattle.rules.specs.Device.{extents, device_of}
 use Rattle.rules.specs.Request.{trimmed}
 use Rattle.rules.specs.declared.Extent.{Extent}
-use Rattle.laws.specs.Bools.{never, same_test}
 use Rattle.laws.specs.Rows.{Rows}
 use Rattle.laws.specs.Sound.{Shaped, SoundState}
-use Rattle.laws.specs.Runs.{joinable-true, joined-true}
 use Rattle.laws.specs.Slots.{slots_at, slots_length}
 use Rattle.laws.specs.Counts.{starts_before, ends_after, left_join, tally_le, left-none, left-last}
 use Rattle.laws.specs.Growth.{trim-grows}
@@ -93,17 +89,3 @@ unfolding joins_before
 last-joins n before f x ws h g =
     let e : suc (before - 1) ≡ before = omega arith in
     ap (λ (y : Extent). joinable n y f) g ∙ ap (λ (b : ℕ). joins_before n f b ws) e
-
--- `joinable`, its three tests in the code's order
-module _ (n : ℕ) (x f : Extent) where
-  pub next_apart : (f.logical ≡ end x → ⊥) → false ≡ joinable n x f
-  next_apart h = sym (never (joinable n x f) (λ e. h (joinable-true n x f e).logical))
-
-  pub page_apart : (f.physical ≡ x.physical + x.count → ⊥) → false ≡ joinable n x f
-  page_apart h = sym (never (joinable n x f) (λ e. h (joinable-true n x f e).physical))
-
-  pub by_block : f.logical ≡ end x → f.physical ≡ x.physical + x.count → eqb (x.physical / n) (f.physical / n) ≡ joinable n x f
-  by_block h t =
-      same_test (eqb (x.physical / n) (f.physical / n)) (joinable n x f)
-      (λ e. joined-true n x f (record { block = eqb-true _ _ e; logical = h; physical = t }))
-      (λ e. eq-eqb _ _ (joinable-true n x f e).block)

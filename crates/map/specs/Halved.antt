@@ -11,7 +11,7 @@ use Rattle.rules.specs.declared.Extent.{Extent}
 use Rattle.laws.specs.Counts.{tally, starts_before, ends_after, tally-start, tally-more}
 use Rattle.laws.specs.Cut.{from, from-none}
 use Rattle.laws.specs.Slots.{slots-first}
-use Rattle.map.specs.Sound.{SoundMap, sound-piece, sound-order}
+use Rattle.map.specs.Sound.{Rising, rising-order}
 
 -- how many of the extents end at or below logical page l
 abbrev pub ends_by : ℕ → List Extent → ℕ
@@ -50,11 +50,11 @@ pub record Halved (ws : List ℕ) (u l i left : ℕ) : Type 0 where
 pub halved-start : (ws : List ℕ) (u l : ℕ) → Halved ws u l 0 u
 halved-start ws u l = record { inside = omega arith; low = λ j h. absurd (omega arith); high = λ j h t. absurd (omega arith) }
 
-module _ (ws : List ℕ) (u : ℕ) (s : SoundMap (slots_from ws 0 u)) where
+module _ (ws : List ℕ) (u : ℕ) (s : Rising ws u) where
   ends_rise : (i j : ℕ) → i ≤ j → j < u → end (slot ws i) ≤ end (slot ws j)
   ends_rise i j h t =
       by_cases (dec_lt i j)
-      (λ g. omega (arith, sound-order ws u s i j g t))
+      (λ g. omega (arith, rising-order ws u s i j g t))
       (λ g. let at : i ≡ j = omega arith in rw at (omega arith))
 
   module _ (l i left : ℕ) (h : Halved ws u l i left) (m : ℕ) (a : i ≤ m) (b : m < i + left) where
@@ -86,7 +86,7 @@ halved-end ws u l i left h e =
 
 -- ---- what the number tells of each slot
 
-module _ (ws : List ℕ) (u l : ℕ) (s : SoundMap (slots_from ws 0 u)) where
+module _ (ws : List ℕ) (u l : ℕ) (s : Rising ws u) where
   record Found : Type 0 where
     at : ℕ
     is : Halved ws u l at 0
@@ -114,10 +114,10 @@ module _ (ws : List ℕ) (u l : ℕ) (s : SoundMap (slots_from ws 0 u)) where
     first_below = omega (arith, found.inside)
 
     ahead : (j : ℕ) → j < k → (slot ws j).logical < l
-    ahead j h = omega (arith, found.low j h, (sound-piece ws u s j (omega (arith, first_below))).some)
+    ahead j h = omega (arith, found.low j h, (s.pieces j (omega (arith, first_below))).some)
 
     behind : (j : ℕ) → k < j → j < u → l ≤ (slot ws j).logical
-    behind j h t = omega (arith, found.high k (omega arith) (omega arith), sound-order ws u s k j h t)
+    behind j h t = omega (arith, found.high k (omega arith) (omega arith), rising-order ws u s k j h t)
 
     -- the slots before it start before l, those behind it do not; and so does it
     pub starts-there : k < u → (slot ws k).logical < l → k + 1 ≡ starts_before l (slots_from ws 0 u)
@@ -150,7 +150,7 @@ from_skip ws u l k b h (suc d) i e =
     ∙ from_skip ws u l k b h d (i + 1) (omega arith)
 
 -- the extents from l on are those from l on of the slots from that one on
-pub from-there : (ws : List ℕ) (u l k : ℕ) → SoundMap (slots_from ws 0 u) → k ≡ ends_by l (slots_from ws 0 u) → from l (slots_from ws 0 u) ≡ from l (slots_from ws k (u - k))
+pub from-there : (ws : List ℕ) (u l k : ℕ) → Rising ws u → k ≡ ends_by l (slots_from ws 0 u) → from l (slots_from ws 0 u) ≡ from l (slots_from ws k (u - k))
 from-there ws u l k s e =
     let z : u ≡ u - 0 = omega arith in
     let h = ends-first ws u l s k e in

@@ -3,3 +3,4 @@ pub mod Halved
 pub mod Around
 pub mod Padded
 pub mod Clip
+pub mod InUse

@@ -1,14 +1,14 @@
 #![tactic(auto)]
 
-// The extents of a sound state: where a page and a range meet them, found by halving the slots; extents let in, and slots that go. `Holds` says that words are
-// extents in their first slots and zeros behind; whatever changes the map, here, in `cutting` and in `putting`, leaves it so.
+// The extents of a sound state: where each ends, what joins them, extents let in, and slots that go; where a page and a range meet them stands in `in_use`. `Holds`
+// says that words are extents in their first slots and zeros behind; whatever changes the map, here, in `cutting` and in `putting`, leaves it so: it takes
+// words and number of slots apart, not as an `InUse`, since it changes both and leaves the slots out of order between.
 ghost use Rattle.std.specs.Prelude.{◌≡◌, ◌+◌, ◌*◌, ◌<◌, ◌≤◌, ◌^◌, length};
-ghost use Rattle.rules.specs.Extents.{extent, end, slot, slots_from};
-ghost use Rattle.laws.specs.Counts.{starts_before};
-ghost use Rattle.map.specs.Sound.{SoundMap};
-ghost use Rattle.map.specs.Halved.{ends_by};
-ghost use Rattle.map.specs.Around.{Beside, joins_before};
+ghost use Rattle.rules.specs.Extents.{extent, end, joinable, slot, slots_from};
+ghost use Rattle.map.specs.Around.{joins_before};
 ghost use Rattle.map.specs.Padded.{padded, spliced, without, Holds};
+
+pub mod in_use;
 
 use rules::Extent;
 
@@ -25,27 +25,6 @@ pub fn end_of(ext: &[u32], i: usize) -> u64
     ensures { (result ≡ end (slot ext.now i)) × (result < 2 ^ 33) }
 {
     end(words::slot_at(ext, i))
-}
-
-// How many of the extents in use end at or below a logical page: the first slot that ends after it, found by halving the slots that are left.
-pub fn first_after(ext: &[u32], used: usize, page: u64) -> usize
-    requires { (3 * used ≤ length ext.now) × SoundMap (slots_from ext.now 0 used) }
-    ensures { result ≡ ends_by page (slots_from ext.now 0 used) }
-{
-    // The edits middle_lost and stops_one_early are mistakes in the halving, and `partition_point` does it out of their reach.
-    let mut first: usize = 0;
-    let mut left = used;
-    while left > 0 {
-        let half = left / 2;
-        let middle = first + half;
-        if end_of(ext, middle) <= page {
-            first = middle + 1;
-            left -= half + 1;
-        } else {
-            left = half;
-        }
-    }
-    first
 }
 
 // A place in the extents in use that is to be closed or filled: the slots from `from` up to `to` are to go.
@@ -65,32 +44,14 @@ pub struct Sides {
     pub after: usize,
 }
 
-// How many of the extents in use start before l: those before the first that ends after l, and that one where it does.
-fn starting_before(ext: &[u32], used: usize, first: usize, l: u32) -> usize
-    requires { (3 * used ≤ length ext.now) × SoundMap (slots_from ext.now 0 used) × (first ≡ ends_by l (slots_from ext.now 0 used)) }
-    ensures { result ≡ starts_before l (slots_from ext.now 0 used) }
+// Whether extent b goes on in its block where a ends, so that the two are one. Ends as whole numbers.
+pub fn joins(a: Extent, b: Extent, n: u32) -> bool
+    requires { 1 ≤ n }
+    ensures { result ≡ joinable n a b }
 {
-    if first < used && words::slot_at(ext, first).logical < l {
-        first + 1
-    } else {
-        first
-    }
-}
-
-// Where the n logical pages from l on meet the extents in use, whether there are such pages or not.
-pub fn around(ext: &[u32], used: usize, l: u32, n: u32) -> Sides
-    requires { (3 * used ≤ length ext.now) × SoundMap (slots_from ext.now 0 used) }
-    ensures { Beside l (l + n) (slots_from ext.now 0 used) result }
-{
-    let first = first_after(ext, used, l as u64);
-    let behind = first_after(ext, used, (l as u64) + (n as u64));
-    let before = starting_before(ext, used, first, l);
-    let after = used - behind;
-    Sides {
-        first,
-        before,
-        after,
-    }
+    a.physical / n == b.physical / n
+        && (b.logical as u64) == (a.logical as u64) + (a.count as u64)
+        && (b.physical as u64) == (a.physical as u64) + (a.count as u64)
 }
 
 // The last extent before slot `before` goes on with logical page l on page p.
@@ -101,10 +62,12 @@ pub fn joins_left(ext: &[u32], before: usize, pages: u32, l: u32, p: u32) -> boo
     if before < 1 {
         return false;
     }
-    let x = words::slot_at(ext, before - 1);
-    (l as u64) == end(x)
-        && (p as u64) == (x.physical as u64) + (x.count as u64)
-        && x.physical / pages == p / pages
+    let x = Extent {
+        logical: l,
+        physical: p,
+        count: 1,
+    };
+    joins(words::slot_at(ext, before - 1), x, pages)
 }
 
 // The k extents of `new` come in at slot i, and the slots from there on move up, once for all of them. Where none comes in, none moves.

@@ -8,7 +8,7 @@ ghost use Rattle.starting.specs.Bare.{bare};
 ghost use Rattle.placing.specs.Blocks.{raised};
 ghost use Rattle.placing.specs.Place.{RoomFor, PlacedIn, Placeable, Placed};
 
-use rules::{BlockRecord, Extent};
+use rules::{BlockRecord, Extent, Head};
 
 // m pages more in block b, each of them mapped.
 fn raise(blk: &mut [u32], b: usize, m: u32)
@@ -19,28 +19,29 @@ fn raise(blk: &mut [u32], b: usize, m: u32)
     let more = BlockRecord {
         fill: r.fill + m,
         valid: r.valid + m,
+        ..r
     };
     words::put_block(blk, b, more);
 }
 
 // One block's part of a write: the labels of its m pages, its record, and piece k. Nothing where m is 0.
 fn place_in(
+    h: Head,
     blk: &mut [u32],
     spare: &mut [u32],
     out: &mut [u32],
     b: usize,
-    n: u32,
     l: u32,
     m: u32,
     k: u32,
 ) -> u32
-    requires { RoomFor blk.old spare.old out.old b n l m k }
-    ensures { PlacedIn blk.old spare.old out.old blk.new spare.new out.new b n l m k result }
+    requires { RoomFor blk.old spare.old out.old b h.pages l m k }
+    ensures { PlacedIn blk.old spare.old out.old blk.new spare.new out.new b h.pages l m k result }
 {
     if m == 0 {
         return k;
     }
-    let page = (b as u32) * n + words::fill_of(blk, b);
+    let page = (b as u32) * h.pages + words::fill_of(blk, b);
     let first = page as usize;
     words::fill_rise(&mut spare[first..first + (m as usize)], l);
     raise(blk, b, m);
@@ -55,27 +56,25 @@ fn place_in(
 
 // Places `want` pages for lines l, l + 1, .., which start with block `from`, and lists the pieces. Answers how many there are.
 pub fn place(
+    h: Head,
     blk: &mut [u32],
     spare: &mut [u32],
     out: &mut [u32],
-    blocks: u32,
-    n: u32,
-    reserve: u32,
     from: usize,
     l: u32,
     want: u32,
 ) -> u32
-    requires { Placeable blocks n reserve from l want blk.old spare.old out.old }
-    ensures { Placed (bare blocks n reserve blk.old spare.old) l want blk.old out.old blk.new spare.new out.new result }
+    requires { Placeable h.blocks h.pages h.reserve from l want blk.old spare.old out.old }
+    ensures { Placed (bare h.blocks h.pages h.reserve blk.old spare.old) l want blk.old out.old blk.new spare.new out.new result }
 {
     let mut done: u32 = 0;
     let mut k: u32 = 0;
-    for b in from..blocks as usize {
+    for b in from..h.blocks as usize {
         if done == want {
             return k;
         }
-        let m = starting::room_in(blk, b, n, reserve, want - done);
-        k = place_in(blk, spare, out, b, n, l + done, m, k);
+        let m = starting::room_in(h, blk, b, want - done);
+        k = place_in(h, blk, spare, out, b, l + done, m, k);
         done += m;
     }
     k

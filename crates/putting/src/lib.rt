@@ -1,7 +1,7 @@
 #![tactic(auto)]
 
 // A write's pieces put into the extents, in place, where its range was cut out: assumed are the gap that it left, whether the first joins the extent in
-// front of it, and slots enough; promised is the list of extents with them, and zeros behind it.
+// front of it, and slots enough; promised is the list of extents with them, and zeros behind it. Words and number of slots come apart, as in `cutting`.
 ghost use Rattle.std.specs.Prelude.{◌≡◌, ◌+◌, ◌-◌, ◌<◌, ◌≤◌, ◌^◌, length};
 ghost use Rattle.rules.specs.Extents.{slot, slots_from};
 ghost use Rattle.map.specs.Padded.{padded, spliced, without, Holds, Becomes};
@@ -39,7 +39,7 @@ fn fill_gap(ext: &mut [u32], gap: Gap, new: &[u32], s: usize, k: usize) -> usize
     used + more
 }
 
-// k new pieces come into the gap, where the first is `joined` to the extent in front of it or not. The slots then in use are returned.
+// k new pieces, whose words are the first of the answer buffer, come into the gap, where the first is `joined` to the extent in front of it or not. The slots then in use are returned.
 pub fn put_pieces(ext: &mut [u32], gap: Gap, joined: bool, new: &[u32], k: usize) -> usize
     requires { Puttable ext.old gap.used gap.from gap.to joined new.now k }
     ensures { Becomes (length ext.old) (put_in gap.from joined (slots_from new.now 0 k)

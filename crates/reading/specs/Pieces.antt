@@ -6,4 +6,4 @@ use Rattle.reading.specs.Walk.{between}
 use Rattle.reading.specs.declared.Pieces.{Pieces}
 
 abbrev pub pieces_left : Pieces → List Extent
-pieces_left s = between s.pos s.e (slots_from s.ext.now s.i (s.used - s.i))
+pieces_left s = between s.pos s.e (slots_from s.m.words.now s.i (s.m.used - s.i))

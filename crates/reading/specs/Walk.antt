@@ -20,7 +20,7 @@ use Rattle.laws.specs.Counts.{cut-bound}
 use Rattle.laws.specs.Sound.{Shaped, SoundState}
 use Rattle.laws.specs.Read.{found-window}
 use Rattle.laws.specs.States.{device-lines, extents-in_use, state-storable, table-lines}
-use Rattle.map.specs.Sound.{SoundMap, Piece, sound-piece, sound-order}
+use Rattle.map.specs.Sound.{Rising}
 use Rattle.map.specs.Halved.{ends_by, ends-first, from-there}
 
 -- the extents from logical page l up to e, each clipped, and each maximal hole
@@ -138,29 +138,23 @@ unfolding slots_from below
 below-slots e ws j zero h = refl
 below-slots e ws j (suc m) h = below_none e (slot ws j) (slots_from ws (j + 1) m) (h (omega arith))
 
--- at slot i of u, the answer at pos: the slots that are left have pages, each ends before the next begins, and slot i ends after pos
+-- at slot i of u, the answer at pos: slot i ends after pos
 pub record Walks (ws : List ℕ) (u i pos e : ℕ) : Type 0 where
-  pub fits : 3 * u ≤ length ws
   pub passed : i ≤ u
   pub order : pos ≤ e
-  pub pieces : (j : ℕ) → i ≤ j → j < u → Piece (slot ws j)
-  pub rise : (j : ℕ) → i ≤ j → j + 1 < u → end (slot ws j) ≤ (slot ws (j + 1)).logical
   pub ahead : i < u → pos < end (slot ws i)
 
 -- a read may start at the first slot that ends after l
-pub walk_start : (l e i : ℕ) (ws : List ℕ) (u : ℕ) → SoundMap (slots_from ws 0 u) → i ≡ ends_by l (slots_from ws 0 u)
+pub walk_start : (l e i : ℕ) (ws : List ℕ) (u : ℕ) → Rising ws u → i ≡ ends_by l (slots_from ws 0 u)
     → between l e (slots_from ws 0 u) ≡ between l e (slots_from ws i (u - i))
 walk_start l e i ws u s h = ap (λ (es : List Extent). with_holes l e (below e es)) (from-there ws u l i s h)
 
-pub walks-start : (ws : List ℕ) (u i l e : ℕ) → 3 * u ≤ length ws → l ≤ e → SoundMap (slots_from ws 0 u) → i ≡ ends_by l (slots_from ws 0 u) → Walks ws u i l e
-walks-start ws u i l e f h s g =
-    let k = ends-first ws u l s i g in
+pub walks-start : (ws : List ℕ) (u i l e : ℕ) → l ≤ e → Rising ws u → i ≡ ends_by l (slots_from ws 0 u) → Walks ws u i l e
+walks-start ws u i l e h r g =
+    let k = ends-first ws u l r i g in
     record {
-      fits = f;
       passed = omega (arith, k.inside);
       order = h;
-      pieces = λ j a t. sound-piece ws u s j t;
-      rise = λ j a t. sound-order ws u s j (j + 1) (omega arith) t;
       ahead = λ t. k.high i (omega arith) t;
     }
 
@@ -169,7 +163,7 @@ between-over : (e : ℕ) (es : List Extent) → between e e es ≡ []
 unfolding with_holes
 between-over e es = ap (with_holes e e) (below-from e es) ∙ no-hole e e [] (omega arith)
 
-module _ (ws : List ℕ) (u i pos e : ℕ) (h : Walks ws u i pos e) where
+module _ (ws : List ℕ) (u i pos e : ℕ) (r : Rising ws u) (h : Walks ws u i pos e) where
   abbrev left : List Extent
   left = slots_from ws i (u - i)
 
@@ -187,7 +181,7 @@ module _ (ws : List ℕ) (u i pos e : ℕ) (h : Walks ws u i pos e) where
   last_hole t g =
       by_cases (dec_lt i u)
       (λ k. ap (between pos e) (slots-first ws i u k)
-      ∙ between-end pos e (slot ws i) (slots_from ws (i + 1) (u - (i + 1))) (h.pieces i (omega arith) k).some h.order (omega (arith, g k)))
+      ∙ between-end pos e (slot ws i) (slots_from ws (i + 1) (u - (i + 1))) (r.pieces i k).some h.order (omega (arith, g k)))
       (λ k. no_slot (omega (arith, h.passed)))
       ∙ some-hole pos e [] t
       ∙ ap (λ (es : List Extent). extent pos none (e - pos) ∷ es) (sym (between-over e left))
@@ -202,10 +196,10 @@ module _ (ws : List ℕ) (u i pos e : ℕ) (h : Walks ws u i pos e) where
     more : (p : ℕ) → p ≤ e → starts p x < e → between p e left ≡ tells p e x ++ behind (reaches p e x)
     more p t s =
         ap (between p e) (slots-first ws i u k)
-        ∙ between_more p e x (slots_from ws (i + 1) (u - (i + 1))) (h.pieces i (omega arith) k).some t s
+        ∙ between_more p e x (slots_from ws (i + 1) (u - (i + 1))) (r.pieces i k).some t s
         (λ q. from-slots (reaches p e x) ws (i + 1) (u - (i + 1))
-        (λ m. (omega (arith, h.rise i (omega arith) (omega arith), (h.pieces i (omega arith) k).some), (h.pieces (i + 1) (omega arith) (omega arith)).some)))
-        (λ q. below-slots e ws (i + 1) (u - (i + 1)) (λ m. omega (arith, h.rise i (omega arith) (omega arith))))
+        (λ m. (omega (arith, r.rise i (omega arith), (r.pieces i k).some), (r.pieces (i + 1) (omega arith)).some)))
+        (λ q. below-slots e ws (i + 1) (u - (i + 1)) (λ m. omega (arith, r.rise i (omega arith))))
 
     -- slot i has page p
     holding : (p : ℕ) → x.logical ≤ p → p < end x → p < e
@@ -220,7 +214,7 @@ module _ (ws : List ℕ) (u i pos e : ℕ) (h : Walks ws u i pos e) where
     -- it starts behind pos
     hole_first : pos < x.logical → x.logical < e → between pos e left ≡ extent pos none (x.logical - pos) ∷ between x.logical e left
     hole_first s t =
-        let some : 0 < x.count = (h.pieces i (omega arith) k).some in
+        let some : 0 < x.count = (r.pieces i k).some in
         let first : starts pos x ≡ x.logical = omega arith in
         let reach : reaches pos e x ≡ min (end x) e = omega arith in
         more pos h.order (omega arith)
@@ -231,7 +225,7 @@ module _ (ws : List ℕ) (u i pos e : ℕ) (h : Walks ws u i pos e) where
   -- the piece of slot i, which starts at pos or before, and reaches as far as it and e do
   pub walks-piece : i < u → (x : Extent) (reach : ℕ) → x ≡ slot ws i → reach ≡ min (end x) e → x.logical ≤ pos → pos < e
       → between pos e left ≡ extent pos (x.physical + (pos - x.logical)) (reach - pos) ∷ between reach e (slots_from ws (i + 1) (u - (i + 1)))
-  walks-piece k x reach g r s t = rw (r, g) (holding k pos (rw g at s) (h.ahead k) t)
+  walks-piece k x reach g a s t = rw (a, g) (holding k pos (rw g at s) (h.ahead k) t)
 
   -- the hole up to where the next slot starts, or e
   pub walks-hole : (stop : ℕ) → pos < stop → stop ≤ e → (i < u → stop ≤ (slot ws i).logical) → (stop < e → (i < u) × (stop ≡ (slot ws i).logical))

@@ -3,39 +3,36 @@
 // What a read finds in the extents: its pieces one after the other, from the first slot that its range meets. They are counted, or laid into the answer
 // buffer.
 ghost use Rattle.std.specs.Prelude.{◌≡◌, ◌*◌, ◌≤◌, length};
-ghost use Rattle.rules.specs.Extents.{flat, slots_from};
-ghost use Rattle.map.specs.Sound.{SoundMap};
+ghost use Rattle.rules.specs.Extents.{flat};
 ghost use Rattle.map.specs.Halved.{ends_by};
+ghost use Rattle.map.specs.InUse.{extents_of};
 ghost use Rattle.reading.specs.Walk.{between, Walks};
 ghost use Rattle.rules.specs.Calls.{over};
 
+use map::in_use::InUse;
 use rules::Extent;
-
-// A hole's physical page.
-const NONE: u32 = 4294967295;
+use words::NONE;
 
 // The pieces from `pos`, where the answer has come to, up to e; the extents from slot i on are still to come.
 #[derive(Drop)]
 struct Pieces<'a> {
-    ext: &'a [u32],
-    used: usize,
+    m: InUse<'a>,
     i: usize,
     pos: u32,
     e: u32,
-    ghost walk: { Walks ext.now used i pos e },
+    ghost walk: { Walks m.words.now m.used i pos e },
 }
 
 impl<'a> Pieces<'a> {
     ghost use Rattle.reading.specs.Pieces.{pieces_left};
 
     // Those of the logical pages from l up to e, where `first` is the first slot that ends after l.
-    fn new(ext: &'a [u32], used: usize, first: usize, l: u32, e: u32) -> Pieces<'a>
-        requires { (3 * used ≤ length ext.now) × (l ≤ e) × SoundMap (slots_from ext.now 0 used) × (first ≡ ends_by l (slots_from ext.now 0 used)) }
-        ensures { pieces_left result ≡ between l e (slots_from ext.now 0 used) }
+    fn new(m: InUse<'a>, first: usize, l: u32, e: u32) -> Pieces<'a>
+        requires { (l ≤ e) × (first ≡ ends_by l (extents_of m)) }
+        ensures { pieces_left result ≡ between l e (extents_of m.entry) }
     {
         Pieces {
-            ext,
-            used,
+            m,
             i: first,
             pos: l,
             e,
@@ -59,8 +56,8 @@ impl<'a> Iterator for Pieces<'a> {
             return None;
         }
         let mut stop = self.e;
-        if self.i < self.used {
-            let x = words::slot_at(self.ext, self.i);
+        if self.i < self.m.used {
+            let x = words::slot_at(self.m.words, self.i);
             if x.logical <= pos {
                 let page = x.physical + (pos - x.logical);
                 let reach = map::end(x).min(self.e as u64) as u32;
@@ -84,24 +81,24 @@ impl<'a> Iterator for Pieces<'a> {
 }
 
 // How many pieces a read of the logical pages from l up to e finds, where `first` is the first slot that ends after l.
-pub fn count_found(ext: &[u32], used: usize, first: usize, l: u32, e: u32) -> usize
-    requires { (3 * used ≤ length ext.now) × (l ≤ e) × SoundMap (slots_from ext.now 0 used) × (first ≡ ends_by l (slots_from ext.now 0 used)) }
-    ensures { result ≡ length (between l e (slots_from ext.now 0 used)) }
+pub fn count_found(m: InUse<'_>, first: usize, l: u32, e: u32) -> usize
+    requires { (l ≤ e) × (first ≡ ends_by l (extents_of m)) }
+    ensures { result ≡ length (between l e (extents_of m.entry)) }
 {
-    Pieces::new(ext, used, first, l, e).count()
+    Pieces::new(m, first, l, e).count()
 }
 
 // What a read of the logical pages from l up to e finds, in the first words of the answer buffer, where `first` is the first slot that ends
 // after l: how many pieces.
-pub fn list_found(ext: &[u32], used: usize, first: usize, l: u32, e: u32, out: &mut [u32]) -> usize
-    requires used_in_bounds { (3 * used ≤ length ext.now) × (l ≤ e) × SoundMap (slots_from ext.now 0 used) × (first ≡ ends_by l (slots_from ext.now 0 used)) }
-    requires used_in_bounds_2 { 3 * length (between l e (slots_from ext.now 0 used)) ≤ length out.old }
-    ensures { (result ≡ length (between l e (slots_from ext.now 0 used)))
-        × (out.new ≡ over (flat (between l e (slots_from ext.now 0 used))) out.old) }
+pub fn list_found(m: InUse<'_>, first: usize, l: u32, e: u32, out: &mut [u32]) -> usize
+    requires place { (l ≤ e) × (first ≡ ends_by l (extents_of m)) }
+    requires room { 3 * length (between l e (extents_of m)) ≤ length out.old }
+    ensures { (result ≡ length (between l e (extents_of m.entry)))
+        × (out.new ≡ over (flat (between l e (extents_of m.entry))) out.old) }
 {
     // How many came is the answer, which `enumerate` does not hand back: so k is counted here.
     let mut k: usize = 0;
-    for piece in Pieces::new(ext, used, first, l, e) {
+    for piece in Pieces::new(m, first, l, e) {
         words::put_slot(out, k, piece);
         k += 1;
     }

@@ -4,7 +4,7 @@
 // state promises is required here.
 ghost use Rattle.std.specs.Prelude.{◌≡◌, ℕ, ◌+◌, ◌*◌, ◌<◌, ◌≤◌, length, take, slice_index};
 ghost use Rattle.rules.specs.Blocks.{HasBlock};
-ghost use Rattle.rules.specs.Extents.{none, end, joinable, slot, slots_from};
+ghost use Rattle.rules.specs.Extents.{none, end, slot, slots_from};
 ghost use Rattle.laws.specs.Cells.{copies_into, swept};
 ghost use Rattle.laws.specs.Norm.{move};
 ghost use Rattle.map.specs.Padded.{padded};
@@ -16,10 +16,9 @@ ghost use Rattle.reclaiming.specs.Moves.{Moves};
 ghost use Rattle.reclaiming.specs.Labels.{Copied};
 ghost use Rattle.reclaiming.specs.Emptied.{emptied};
 
+use choosing::block::Block;
 use rules::{BlockRecord, Extent};
-
-// The label of an erased page.
-const NONE: u32 = u32::MAX;
+use words::NONE;
 
 // The labels of the first k pages listed, copied one after the other.
 fn copy_labels(spare: &mut [u32], out: &[u32], k: usize, to: usize)
@@ -32,6 +31,7 @@ fn copy_labels(spare: &mut [u32], out: &[u32], k: usize, to: usize)
 }
 
 // The labels go along with the copies, and the victim's are erased.
+// The victim's numbers and no `Block`: all that `Copied` asks is that its labels are there, of which a slice may have more than a word counts.
 pub fn move_labels(spare: &mut [u32], out: &[u32], k: usize, n: u32, r: u32, v: u32)
     requires { Copied n r v out.now k (length spare.old) }
     ensures { spare.new ≡ swept none n r v (take k out.now) spare.old }
@@ -55,22 +55,12 @@ pub fn move_blocks(blk: &mut [u32], r: u32, v: u32)
     words::put_block(blk, v as usize, empty);
 }
 
-// Ends as whole numbers.
-fn joins(a: Extent, b: Extent, n: u32) -> bool
-    requires { 1 ≤ n }
-    ensures { result ≡ joinable n a b }
-{
-    a.physical / n == b.physical / n
-        && (b.logical as u64) == (a.logical as u64) + (a.count as u64)
-        && (b.physical as u64) == (a.physical as u64) + (a.count as u64)
-}
-
 // Extent x is joinable with the last of the first w slots.
 fn joins_last(ext: &[u32], w: usize, x: Extent, n: u32) -> bool
     requires { (1 ≤ n) × (3 * w ≤ length ext.now) }
     ensures { result ≡ joins_last n ext.now w x }
 {
-    w > 0 && joins(words::slot_at(ext, w - 1), x, n)
+    w > 0 && map::joins(words::slot_at(ext, w - 1), x, n)
 }
 
 // Extent x pushed behind the first w slots: how many stand then.
@@ -91,16 +81,16 @@ fn push_slot(ext: &mut [u32], w: usize, x: Extent, n: u32) -> usize
 
 // Slot i goes behind the first w slots. In block v it is moved, and joined where it can be. Elsewhere it stays as it is and joins nothing: no two neighbours did,
 // and what was moved lies in a block of its own. It is stored only where it comes down.
-fn take_slot(ext: &mut [u32], w: usize, i: usize, n: u32, v: u32, r: u32, ranks: &[u32]) -> usize
+fn take_slot(ext: &mut [u32], w: usize, i: usize, v: Block, r: u32, ranks: &[u32]) -> usize
     requires i_in_bounds { (3 * i + 2 < length ext.old) × (w ≤ i) × (end (slot ext.old i) ≤ none) }
-    requires movable { Movable n v r ranks.now × Apart n ext.old w (slot ext.old i) }
-    ensures { Pushed n ext.old w (move (ranked_page n ranks.now v r) (slot ext.old i)) ext.new result }
+    requires movable { Movable v.pages v.number r ranks.now × Apart v.pages ext.old w (slot ext.old i) }
+    ensures { Pushed v.pages ext.old w (move (ranked_page v.pages ranks.now v.number r) (slot ext.old i)) ext.new result }
 {
     let e = words::slot_at(ext, i);
-    let o = e.physical.wrapping_sub(v * n);
-    if o < n {
-        let physical = r * n + ranks[o as usize];
-        return push_slot(ext, w, Extent { physical, ..e }, n);
+    let o = v.offset_of(e.physical);
+    if o < v.pages {
+        let physical = r * v.pages + ranks[o as usize];
+        return push_slot(ext, w, Extent { physical, ..e }, v.pages);
     }
     if w < i {
         words::put_slot(ext, w, e);
@@ -109,32 +99,32 @@ fn take_slot(ext: &mut [u32], w: usize, i: usize, n: u32, v: u32, r: u32, ranks:
 }
 
 // How many slots from slot i on stay where they are: those that lie in other blocks than v, as long as no slot before them has come down.
-fn stay(ext: &[u32], w: usize, used: usize, i: usize, n: u32, v: u32) -> usize
-    requires { (3 * used ≤ length ext.now) × (i ≤ used) × (1 ≤ n) × (v * n + n ≤ none) }
-    ensures { (i + result ≤ used) × (0 < result → w ≡ i) × Elsewhere ext.now i result n v }
+fn stay(ext: &[u32], w: usize, used: usize, i: usize, v: Block) -> usize
+    requires { (3 * used ≤ length ext.now) × (i ≤ used) × (1 ≤ v.pages) }
+    ensures { (i + result ≤ used) × (0 < result → w ≡ i) × Elsewhere ext.now i result v.pages v.number }
 {
     if w != i {
         return 0;
     }
-    choosing::passed_over(ext, used, i, n, v)
+    choosing::passed_over(ext, used, i, v)
 }
 
 // The map afterwards, each slot taken from the left, and zeros where slots stand no longer: how many extents it has. No `for`: i goes on by one slot, or by as
-// many as stay.
-pub fn move_map(ext: &mut [u32], used: usize, n: u32, v: u32, r: u32, ranks: &[u32]) -> usize
-    requires { Moves n v r ext.old used ranks.now }
-    ensures { (result ≡ length (remapped n v r (slots_from ext.old 0 used)))
-        × (ext.new ≡ padded (length ext.old) (remapped n v r (slots_from ext.old 0 used))) }
+// many as stay. No walk in common with `mark_slots` (choosing): this one writes the words that it goes over, and what stays hangs on where it has come to.
+pub fn move_map(ext: &mut [u32], used: usize, v: Block, r: u32, ranks: &[u32]) -> usize
+    requires { Moves v.pages v.number r ext.old used ranks.now }
+    ensures { (result ≡ length (remapped v.pages v.number r (slots_from ext.old 0 used)))
+        × (ext.new ≡ padded (length ext.old) (remapped v.pages v.number r (slots_from ext.old 0 used))) }
 {
     let mut w: usize = 0;
     let mut i: usize = 0;
     while i < used {
-        let k = stay(ext, w, used, i, n, v);
+        let k = stay(ext, w, used, i, v);
         if k > 0 {
             w += k;
             i += k;
         } else {
-            w = take_slot(ext, w, i, n, v, r, ranks);
+            w = take_slot(ext, w, i, v, r, ranks);
             i += 1;
         }
     }

@@ -32,7 +32,7 @@ pub enum Undone {
     Refused(#[from] Refusal),
 }
 
-// Words of which the first are lent: as many as said, or all where there are no more.
+// Words of which the first are lent: as many as said, or all where there are no more. No `ArrayVec`: what is lent may grow again, and the words behind it keep what they hold.
 #[derive(Drop)]
 struct Buffered<const N: usize> {
     words: [u32; N],

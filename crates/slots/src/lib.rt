@@ -2,7 +2,7 @@
 
 // The sound test, slot by slot: does every extent in use stand as rules 1 and 2 ask, with its own labels on pages that are there? Neither L nor a fill is
 // looked at: where rule 3 holds, labels that are right keep an extent below both. Assumed are slots in use that are there; promised are the answer and,
-// where it is yes, the pages that the extents have in each block.
+// where it is yes, the pages that the extents have in each block. Words and number of slots come apart: nothing is known of them before the test.
 ghost use Rattle.std.specs.Prelude.{◌<◌};
 ghost use Rattle.words.specs.Says.{Says};
 ghost use Rattle.slots.specs.Slot.{SlotLies};

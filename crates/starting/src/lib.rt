@@ -9,15 +9,17 @@ ghost use Rattle.starting.specs.Bare.{fills_of};
 ghost use Rattle.starting.specs.Rest.{rest};
 ghost use Rattle.starting.specs.Starts.{Startable, Starts};
 
+use rules::Head;
+
 // What block b takes of `want` pages.
-pub fn room_in(blk: &[u32], b: usize, n: u32, reserve: u32, want: u32) -> u32
+pub fn room_in(h: Head, blk: &[u32], b: usize, want: u32) -> u32
     requires { HasBlock blk.now b }
-    ensures { result ≡ taken n reserve b (fill_word blk.now b) want }
+    ensures { result ≡ taken h.pages h.reserve b (fill_word blk.now b) want }
 {
-    if b == reserve as usize {
+    if b == h.reserve as usize {
         return 0;
     }
-    let room = n.saturating_sub(words::fill_of(blk, b));
+    let room = h.pages.saturating_sub(words::fill_of(blk, b));
     room.min(want)
 }
 
@@ -39,13 +41,13 @@ fn takes_all(m: u32, want: u32) -> bool
 
 // The block that `want` pages start with: the first that has room for all of them or, where none has, the first that has room for one. Where no block
 // has, and for no pages, it is the one behind the last.
-fn start_block(blk: &[u32], blocks: u32, n: u32, reserve: u32, want: u32) -> usize
-    requires { stride * blocks ≤ length blk.now }
-    ensures { result ≡ start_block n reserve (fills_of blocks blk.now) want }
+fn start_block(h: Head, blk: &[u32], want: u32) -> usize
+    requires { stride * h.blocks ≤ length blk.now }
+    ensures { result ≡ start_block h.pages h.reserve (fills_of h.blocks blk.now) want }
 {
     let mut any: Option<usize> = None;
-    for b in 0..blocks as usize {
-        let m = room_in(blk, b, n, reserve, want);
+    for b in 0..h.blocks as usize {
+        let m = room_in(h, blk, b, want);
         if 0 < m {
             if takes_all(m, want) {
                 return b;
@@ -53,34 +55,34 @@ fn start_block(blk: &[u32], blocks: u32, n: u32, reserve: u32, want: u32) -> usi
             any = any.or(Some(b));
         }
     }
-    any.unwrap_or(blocks as usize)
+    any.unwrap_or(h.blocks as usize)
 }
 
 // Where `want` pages start: the block, and its next page, which is 0 where there is no block.
-pub fn start_of(blk: &[u32], blocks: u32, n: u32, reserve: u32, want: u32) -> Start
-    requires { Startable blocks n blk.now }
-    ensures { Starts n reserve blocks blk.now want result }
+pub fn start_of(h: Head, blk: &[u32], want: u32) -> Start
+    requires { Startable h.blocks h.pages blk.now }
+    ensures { Starts h.pages h.reserve h.blocks blk.now want result }
 {
-    let block = start_block(blk, blocks, n, reserve, want);
-    if blocks as usize <= block {
+    let block = start_block(h, blk, want);
+    if h.blocks as usize <= block {
         return Start { block, page: 0 };
     }
-    let page = (block as u32) * n + words::fill_of(blk, block);
+    let page = (block as u32) * h.pages + words::fill_of(blk, block);
     Start { block, page }
 }
 
 // How many pieces `want` pages make from block `from` on.
-pub fn pieces_of(blk: &[u32], blocks: u32, n: u32, reserve: u32, from: usize, want: u32) -> u32
-    requires { (stride * blocks ≤ length blk.now) × (from ≤ blocks) }
-    ensures { (l : ℕ) → result ≡ length (rest n reserve blocks blk.now from l want) }
+pub fn pieces_of(h: Head, blk: &[u32], from: usize, want: u32) -> u32
+    requires { (stride * h.blocks ≤ length blk.now) × (from ≤ h.blocks) }
+    ensures { (l : ℕ) → result ≡ length (rest h.pages h.reserve h.blocks blk.now from l want) }
 {
     let mut count: u32 = 0;
     let mut left = want;
-    for b in from..blocks as usize {
+    for b in from..h.blocks as usize {
         if left == 0 {
             return count;
         }
-        let m = room_in(blk, b, n, reserve, left);
+        let m = room_in(h, blk, b, left);
         if 0 < m {
             count += 1;
         }

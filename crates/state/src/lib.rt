@@ -51,7 +51,7 @@ fn head_ok(h: Head, ext: &[u32], blk: &[u32]) -> bool
         && words::all_are(&ext[3 * h.used as usize..], 0)
 }
 
-// The head, then rule 3, then the slots and the pages that they have in each block, then rule 5.
+// The head, then rule 3, then the slots and the pages that they have in each block, then rule 5. It takes the parts apart: a `Sound` is made by it.
 pub fn is_sound(h: Head, ext: &[u32], blk: &[u32], spare: &[u32]) -> bool
     requires { shape h (length ext.now) (length blk.now) (length spare.now) ≡ true }
     ensures { result ≡ sound (lent h ext.now blk.now spare.now) }

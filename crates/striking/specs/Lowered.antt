@@ -13,7 +13,7 @@ use Rattle.laws.specs.Bools.{cases}
 use Rattle.laws.specs.Records.{put_block-length, put_block_here, put_block_else}
 use Rattle.laws.specs.Sums.{sum-zero}
 use Rattle.laws.specs.Tallies.{overlap, in_range, overlap-before, overlap-after, total, total-slots}
-use Rattle.map.specs.Sound.{SoundMap, sound-order}
+use Rattle.map.specs.Sound.{SoundMap, sound-order, sound-rising}
 use Rattle.map.specs.Halved.{ends_by, ends-first}
 
 -- what the words of the blocks become, for N = n, without the pages of extents from l up to e
@@ -86,7 +86,7 @@ module _ (n l e : ℕ) (ws : List ℕ) where
   -- the slots before the first that ends after l have nothing to lose
   pub lowered-start : (u k : ℕ) (blk : List ℕ) → SoundMap (slots_from ws 0 u) → k ≡ ends_by l (slots_from ws 0 u) → Lowered n l e (slots_from ws 0 k) blk blk
   lowered-start u k blk s h =
-      let f = ends-first ws u l s k h in
+      let f = ends-first ws u l (sound-rising ws u s) k h in
       record {
         size = refl;
         fills = λ b. refl;

@@ -34,7 +34,7 @@ fn lower_slot(x: Extent, pages: u32, l: u32, e: u32, blk: &mut [u32])
 }
 
 // Each block loses the pages that extents in use have in it from l up to e. The first slot that ends after l is `first`; those from the
-// first that starts at e or later on have none.
+// first that starts at e or later on have none. Not over an `InUse`: its `Lowerable` asks for whole sound extents, and says more of them than that these rise.
 pub fn lower(ext: &[u32], used: usize, first: usize, pages: u32, l: u32, e: u32, blk: &mut [u32])
     requires { Lowerable ext.now used pages l e blk.old × (first ≡ ends_by l (slots_from ext.now 0 used)) }
     ensures { Lowered pages l e (slots_from ext.now 0 used) blk.old blk.new }

@@ -2,6 +2,7 @@
 
 // What C and Rust call: each call of the layer, and the read over records, under its name in include/utasiro.h, with its answer as a struct
 // by value. The promises are theirs, through what a struct says.
+// Each call of C is its own function with the parts apart: an exported name takes no type parameter and no struct of borrowed parts.
 ghost use Rattle.std.specs.Prelude.{◌≡◌, []};
 ghost use Rattle.rules.specs.Lent.{lent};
 ghost use Rattle.rules.specs.Answers.{outcome};

@@ -13,6 +13,7 @@ ghost use Rattle.refusals.specs.Refusals.{told, lent_refusal, roomed};
 ghost use Rattle.rules.specs.Reclaim.{victim};
 
 use map::Sides;
+use map::in_use::InUse;
 use refusals::unless;
 use rules::{Head, Refusal};
 use state::sound::Sound;
@@ -46,7 +47,7 @@ pub fn read_verdict(s: Sound<'_>, first: usize, l: u32, n: u32, room: usize) -> 
     ensures { told result ≡ read_refusal l n (roomed room) (device_of (lent_of s.entry)) }
 {
     unless(refusals::in_range(s.head.logical, l, n), Refusal::Range)?;
-    let found = reading::count_found(s.ext, s.head.used as usize, first, l, l + n);
+    let found = reading::count_found(InUse::of(s), first, l, l + n);
     unless(found <= room / 3, Refusal::OutShort)
 }
 

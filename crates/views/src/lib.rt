@@ -11,6 +11,7 @@ ghost use Rattle.map.specs.Halved.{ends_by};
 ghost use Rattle.refusals.specs.Accepts.{Ready};
 ghost use Rattle.views.specs.Reads.{ListedPieces};
 
+use map::in_use::InUse;
 use rules::Counted;
 use state::sound::Sound;
 
@@ -27,5 +28,5 @@ pub fn list_pieces(s: Sound<'_>, first: usize, l: u32, n: u32, out: &mut [u32]) 
     requires { Ready (Call.read l n out.old) (lent_of s) × (first ≡ ends_by l (in_use (lent_of s))) }
     ensures { ListedPieces l n (lent_of s.entry) result out.old out.new }
 {
-    reading::list_found(s.ext, s.head.used as usize, first, l, l + n, out) as u32
+    reading::list_found(InUse::of(s), first, l, l + n, out) as u32
 }

@@ -15,6 +15,9 @@ use rules::{BlockRecord, Extent, Head, Last, Refusal};
 
 pub const STRIDE: usize = 2;
 
+// The label of an erased page, and the page of a hole.
+pub const NONE: u32 = u32::MAX;
+
 // ---- values
 
 // The paper's number of a refusal.

@@ -11,6 +11,7 @@ ghost use Rattle.refusals.specs.Refusals.{told, roomed};
 ghost use Rattle.writable.specs.Meeting.{Meets};
 
 use map::Sides;
+use map::in_use::InUse;
 use refusals::unless;
 use rules::Refusal;
 use state::sound::Sound;
@@ -29,8 +30,8 @@ pub fn meeting_of(s: Sound<'_>, l: u32, n: u32) -> Meeting
     ensures { Meets l n (lent_of s.entry) result }
 {
     let h = s.head;
-    let sides = map::around(s.ext, h.used as usize, l, n);
-    let start = starting::start_of(s.blk, h.blocks, h.pages, h.reserve, n);
+    let sides = InUse::of(s).around(l, n);
+    let start = starting::start_of(h, s.blk, n);
     let joined = map::joins_left(s.ext, sides.before, h.pages, l, start.page);
     Meeting {
         sides,
@@ -67,7 +68,7 @@ pub fn write_verdict(
     let inside = refusals::in_range(h.logical, l, n) && n <= h.pages;
     refusals::asked_verdict(h, inside, number)?;
     unless(n <= blocks::totals_of(h, s.blk).free, Refusal::NoPages)?;
-    let k = starting::pieces_of(s.blk, h.blocks, h.pages, h.reserve, m.from, n);
+    let k = starting::pieces_of(h, s.blk, m.from, n);
     unless(nodes_after(m, k) <= h.slots as usize, Refusal::NoNodes)?;
     unless(k as usize <= room / 3, Refusal::OutShort)
 }

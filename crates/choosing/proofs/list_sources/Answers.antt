@@ -5,7 +5,7 @@ use Rattle.choosing.proofs.list_sources.Goals as goal
 use Rattle.choosing.proofs.list_sources.Goals.{then-rank-ranks, else-rank-ranks}
 
 pub loop-o-init : goal.loop-o-init
-loop-o-init c = listed_start c.args.n c.args.v (rises c.args.ranks.now) c.args.out.now
+loop-o-init c = listed_start c.args.v.pages c.args.v.number (rises c.args.ranks.now) c.args.out.now
 
 -- a page that is listed has room
 pub bounds-out-rank : goal.bounds-out-rank
@@ -13,7 +13,7 @@ bounds-out-rank c =
     let a = c.args in
     let ranks = a.ranks.now in
     let o = c.loop-o.o in
-    omega (arith, rank_below a.n (rises ranks) ranks c.requires.0 o (omega arith) (rise_true ranks o (omega arith)))
+    omega (arith, rank_below a.v.pages (rises ranks) ranks c.requires.0 o (omega arith) (rise_true ranks o (omega arith)))
 
 pub loop-o-preserved : goal.loop-o-preserved
 loop-o-preserved c =
@@ -25,10 +25,10 @@ loop-o-preserved c =
     elim c.if-rank-ranks.branch [
       | then-rank-ranks w ↦
           let rise = rise_true ranks l.o (omega arith) in
-          let room : get_or ranks l.o 0 < length a.out.now = omega (arith, rank_below a.n live ranks ranked l.o (omega arith) rise) in
-          rw w.out-is (listed-live a.n a.v live a.out.now l.o (get_or ranks l.o 0) l.out l.invariant rise (ranked.rank l.o (omega arith)) room)
-      | else-rank-ranks w ↦ rw w.out-is (listed-other a.n a.v live a.out.now l.o l.out l.invariant (rise_false ranks l.o (omega arith)))
+          let room : get_or ranks l.o 0 < length a.out.now = omega (arith, rank_below a.v.pages live ranks ranked l.o (omega arith) rise) in
+          rw (w.out-is, w.first.ensures) (listed-live a.v.pages a.v.number live a.out.now l.o (get_or ranks l.o 0) l.out l.invariant rise (ranked.rank l.o (omega arith)) room)
+      | else-rank-ranks w ↦ rw w.out-is (listed-other a.v.pages a.v.number live a.out.now l.o l.out l.invariant (rise_false ranks l.o (omega arith)))
     ]
 
 pub returns : goal.returns
-returns c = listed-end c.args.n c.args.v (rises c.args.ranks.now) c.args.out.now c.loop-o.o c.loop-o.out c.loop-o.invariant (omega arith)
+returns c = listed-end c.args.v.pages c.args.v.number (rises c.args.ranks.now) c.args.out.now c.loop-o.o c.loop-o.out c.loop-o.invariant (omega arith)

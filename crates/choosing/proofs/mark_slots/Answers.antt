@@ -12,7 +12,7 @@ loop-i-preserved-then-free-gt0 c =
     let a = c.args in
     let free = c.passed_over-free in (
       search rules,
-      marks-over a.ext.now l.i free.result a.n a.v l.marks
+      marks-over a.ext.now l.i free.result a.v.pages a.v.number l.marks
           (λ j h. c.requires.by_index (l.i + j) (omega arith)) (omega arith) free.ensures.1 l.invariant.1,
     )
 
@@ -22,6 +22,6 @@ loop-i-preserved c =
     let a = c.args in
     let marked = c.mark_slot in (
       search rules,
-      marks-more a.ext.now l.i a.n a.v l.marks marked.new.marks
+      marks-more a.ext.now l.i a.v.pages a.v.number l.marks marked.new.marks
           (c.requires.by_index l.i (omega arith)) (omega arith) l.invariant.1 marked.ensures,
     )

@@ -6,4 +6,4 @@ pub returns : goal.returns
 returns c =
     let a = c.args in
     let free = c.free_of in
-    (omega arith, part-elsewhere a.ext.now a.i free.result a.n a.v free.ensures.0 (omega arith) free.ensures.1)
+    (omega arith, part-elsewhere a.ext.now a.i free.result a.v.pages a.v.number free.ensures.0 (omega arith) free.ensures.1)

@@ -11,4 +11,4 @@ returns c =
     let a = c.args in
     let marked = c.mark_slots in
     let added = c.add_up in
-    marks_ranks a.ext.now a.used a.n a.v marked.new.marks added.new.marks (omega arith) marked.ensures added.ensures
+    marks_ranks a.ext.now a.used a.v.pages a.v.number marked.new.marks added.new.marks (omega arith) marked.ensures added.ensures

@@ -3,18 +3,24 @@ use Rattle.rules.specs.Lent.{lent}
 use Rattle.emptying.specs.Empties.{reclaim_walkable, reclaim_moves, reclaim-lists, reclaim-copied, reclaim-map, reclaim-few, reclaim-answer}
 use Rattle.emptying.proofs.empty_victim.Goals as goal
 
+pub invariant_of-block : goal.invariant_of-block
+invariant_of-block c =
+    let a = c.args in
+    record { ends = (reclaim_walkable a.out.now (lent a.h a.ext.now a.blk.now a.spare.now) c.requires.ready a.v c.requires.v_value).room }
+
 pub ranks_of-ranks-requires-clause-used_in_bounds :
     goal.ranks_of-ranks-requires-clause-used_in_bounds
 ranks_of-ranks-requires-clause-used_in_bounds c =
     let a = c.args in
     let w = reclaim_walkable a.out.now (lent a.h a.ext.now a.blk.now a.spare.now) c.requires.ready a.v c.requires.v_value in
-    (w.slots, w.some, w.few, w.room)
+    (w.slots, w.some, w.few)
 
 pub list_sources-requires : goal.list_sources-requires
 list_sources-requires c =
     let a = c.args in
-    reclaim-lists a.out.now (lent a.h a.ext.now a.blk.now a.spare.now) c.requires.ready a.v c.requires.v_value
-    c.ranks_of-ranks.result c.ranks_of-ranks.ensures
+    let lists = reclaim-lists a.out.now (lent a.h a.ext.now a.blk.now a.spare.now) c.requires.ready a.v c.requires.v_value
+    c.ranks_of-ranks.result c.ranks_of-ranks.ensures in
+    (lists.0, lists.1)
 
 pub move_labels-requires : goal.move_labels-requires
 move_labels-requires c =

@@ -1,11 +1,10 @@
-use Rattle.std.proofs.Common.{◌≡◌, ◌∙◌, [], ◌∷◌, arith, refl, subst}
+use Rattle.std.proofs.Common.{◌≡◌, ◌∙◌, [], ◌∷◌, refl, subst}
 use Rattle.rules.specs.Lent.{lent, Lent}
 use Rattle.rules.specs.Answers.{said, outcome}
 use Rattle.rules.specs.Calls.{Call, refused, call}
-use Rattle.state.specs.Seen.{lent_of, is-shaped, is-state}
+use Rattle.state.specs.Seen.{lent_of}
 use Rattle.refusals.specs.Refusals.{handed, lent-refuses}
 use Rattle.refusals.specs.Accepts.{read-room}
-use Rattle.map.specs.Sound.{rows-sound}
 use Rattle.views.specs.Reads.{read_answer}
 use Rattle.layer.specs.Held.{held-refuses, held-ready}
 use Rattle.layer.proofs.read.Goals as goal
@@ -16,11 +15,6 @@ returns-in_err-s c =
     let a = c.args in
     rw (handed _ _ c.from_residual.ensures.1)
     (lent-refuses (Call.read a.l a.n a.out.now) (lent a.h a.ext.now a.blk.now a.spare.now) _ _ c.lent_verdict.ensures.told c.in_err-s.was)
-
-pub first_after-first-requires : goal.first_after-first-requires
-first_after-first-requires c =
-    let s = c.in_ok-s.s in
-    (omega (arith, (is-shaped s).extents, (is-state s).few), rows-sound _ (is-state s))
 
 pub returns-in_err-read_verdict : goal.returns-in_err-read_verdict
 unfolding refused
@@ -33,7 +27,7 @@ pub list_pieces-count-requires : goal.list_pieces-count-requires
 list_pieces-count-requires c =
     let a = c.args in
     let s = c.in_ok-s.s in
-    (held-ready (Call.read a.l a.n a.out.now) (lent_of s) s refl _ (c.read_verdict.ensures ∙ read-room a.l a.n a.out.now _) _ c.in_ok-read_verdict.was, c.first_after-first.ensures)
+    (held-ready (Call.read a.l a.n a.out.now) (lent_of s) s refl _ (c.read_verdict.ensures ∙ read-room a.l a.n a.out.now _) _ c.in_ok-read_verdict.was, rw c.of.ensures at c.first_after-first.ensures)
 
 pub returns : goal.returns
 returns c =

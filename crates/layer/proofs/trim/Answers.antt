@@ -1,10 +1,8 @@
-use Rattle.std.proofs.Common.{◌∙◌, ◌+◌, subst, arith}
+use Rattle.std.proofs.Common.{◌∙◌, ◌+◌, subst}
 use Rattle.rules.specs.Lent.{lent, Lent, in_use}
 use Rattle.rules.specs.Calls.{Call, refused}
-use Rattle.state.specs.Seen.{is-shaped, is-state}
 use Rattle.refusals.specs.Refusals.{handed, lent-refuses}
 use Rattle.refusals.specs.Accepts.{trim-refusal}
-use Rattle.map.specs.Sound.{rows-sound}
 use Rattle.map.specs.Around.{Beside}
 use Rattle.layer.specs.Held.{held-refuses, held-ready}
 use Rattle.layer.proofs.trim.Goals as goal
@@ -15,11 +13,6 @@ returns-in_err-s c =
     let a = c.args in
     rw (handed _ _ c.from_residual.ensures.1)
     (lent-refuses (Call.trim a.number a.l a.n) (lent a.h a.ext.now a.blk.now a.spare.now) _ _ c.lent_verdict.ensures.told c.in_err-s.was)
-
-pub around-sides-requires : goal.around-sides-requires
-around-sides-requires c =
-    let s = c.in_ok-s.s in
-    (omega (arith, (is-shaped s).extents, (is-state s).few), rows-sound _ (is-state s))
 
 pub returns-in_err-trim_verdict : goal.returns-in_err-trim_verdict
 unfolding refused
@@ -33,5 +26,5 @@ make_holes-requires c =
     let a = c.args in
     let e = c.in_ok-s.ensures.seen in (
       held-ready (Call.trim a.number a.l a.n) _ c.in_ok-s.s e _ (c.trim_verdict.ensures ∙ trim-refusal a.number a.l a.n _) _ c.in_ok-trim_verdict.was,
-      subst (λ (x : Lent). Beside a.l (a.l + a.n) (in_use x) c.around-sides.result) e c.around-sides.ensures,
+      subst (λ (x : Lent). Beside a.l (a.l + a.n) (in_use x) c.around-sides.result) e (rw c.of.ensures at c.around-sides.ensures),
     )

@@ -17,7 +17,7 @@ pub overflow_add-done : goal.overflow_add-done
 overflow_add-done c =
     let a = c.args in
     let i = c.loop-b in
-    omega (arith, taken_le a.n a.reserve i.b (fill_word i.blk i.b) (a.want - i.done), c.room_in-m.ensures)
+    omega (arith, taken_le a.h.pages a.h.reserve i.b (fill_word i.blk i.b) (a.want - i.done), c.room_in-m.ensures)
 
 pub loop-b-preserved : goal.loop-b-preserved
 loop-b-preserved c =

@@ -9,5 +9,5 @@ pub returns : goal.returns
 returns c =
     let a = c.args in
     placed-some a.blk.now a.spare.now a.out.now c.raise.new.blk c.fill_rise.new.ws c.put_slot.new.ws
-    a.b a.n a.l a.m a.k c.fill_of.result c.fill_of.ensures (omega arith) (omega (arith, c.requires.below (omega arith)))
+    a.b a.h.pages a.l a.m a.k c.fill_of.result c.fill_of.ensures (omega arith) (omega (arith, c.requires.below (omega arith)))
     c.fill_rise.ensures c.raise.ensures c.put_slot.ensures

@@ -5,4 +5,4 @@ use Rattle.reading.proofs.count_found.Goals as goal
 pub count-requires-clause-fits : goal.count-requires-clause-fits
 count-requires-clause-fits c =
     let a = c.args in
-    inl (omega (arith, ap length c.new.ensures, between-most a.l a.e a.ext.now 0 a.used))
+    inl (omega (arith, ap length c.new.ensures, between-most a.l a.e a.m.words.now 0 a.m.used))

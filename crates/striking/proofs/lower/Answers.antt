@@ -1,5 +1,6 @@
 use Rattle.std.proofs.Common.{ap, arith, rules}
 use Rattle.rules.specs.declared.Extent.{Extent}
+use Rattle.map.specs.Sound.{sound-rising}
 use Rattle.map.specs.Halved.{first_below}
 use Rattle.striking.specs.Lowered.{lowered-start, lowered-more, lowered-end, lowered-enough}
 use Rattle.striking.proofs.lower.Goals as goal
@@ -8,7 +9,7 @@ pub loop-i-init : goal.loop-i-init
 loop-i-init c =
     let a = c.args in
     let sound = c.requires.0.sound in (
-      first_below a.ext.now a.used a.l sound a.first c.requires.1,
+      first_below a.ext.now a.used a.l (sound-rising a.ext.now a.used sound) a.first c.requires.1,
       lowered-start a.pages a.l a.e a.ext.now a.used a.first a.blk.now sound c.requires.1,
     )
 

@@ -1,6 +1,5 @@
 use Rattle.std.proofs.Common.{◌∙◌, arith}
 use Rattle.state.specs.Seen.{lent_of, is-shaped, is-state}
-use Rattle.map.specs.Sound.{rows-sound}
 use Rattle.refusals.specs.Refusals.{handed_on}
 use Rattle.verdicts.specs.Reading.{read-range, read-short, read-within}
 use Rattle.verdicts.proofs.read_verdict.Goals as goal
@@ -16,15 +15,8 @@ overflow_add-l c =
     let a = c.args in
     omega (arith, read-within (lent_of a.s) (is-shaped a.s) (is-state a.s) a.l a.n a.room c.in_range.result c.in_range.ensures _ _ c.unless.ensures c.in_ok-unless.was)
 
-pub count_found-found-requires : goal.count_found-found-requires
-count_found-found-requires c =
-    let a = c.args in
-    let h = is-shaped a.s in
-    let z = is-state a.s in
-    (omega (arith, h.extents, z.few), omega arith, rows-sound (lent_of a.s) z, c.requires)
-
 pub returns : goal.returns
 returns c =
     let a = c.args in
     read-short (lent_of a.s) (is-shaped a.s) (is-state a.s) a.l a.n a.room c.in_range.result c.in_range.ensures
-    _ _ _ _ c.unless.ensures c.in_ok-unless.was c.count_found-found.ensures c.unless-2.ensures
+    _ _ _ _ c.unless.ensures c.in_ok-unless.was (rw c.of.ensures at c.count_found-found.ensures) c.unless-2.ensures

@@ -8,12 +8,12 @@ overflow_add-l c =
     let a = c.args in
     omega (arith, read-inside a.l a.n a.out.now (lent_of a.s) c.requires.0)
 
-pub list_found-requires-clause-used_in_bounds_2 : goal.list_found-requires-clause-used_in_bounds_2
-list_found-requires-clause-used_in_bounds_2 c =
+pub list_found-requires-clause-room : goal.list_found-requires-clause-room
+list_found-requires-clause-room c =
     let a = c.args in
-    read_fits a.l a.n a.out.now (lent_of a.s) c.requires.0
+    rw c.of.ensures (read_fits a.l a.n a.out.now (lent_of a.s) c.requires.0)
 
 pub overflow_cast-result : goal.overflow_cast-result
 overflow_cast-result c =
     let a = c.args in
-    omega (arith, read-few a.l a.n a.out.now (lent_of a.s) c.requires.0, c.list_found.ensures.0)
+    omega (arith, read-few a.l a.n a.out.now (lent_of a.s) c.requires.0, rw c.of.ensures at c.list_found.ensures.0)

@@ -1,14 +1,8 @@
 use Rattle.std.proofs.Common.{arith}
 use Rattle.state.specs.Seen.{lent_of, is-shaped, is-state}
 use Rattle.map.specs.Around.{starts_le}
-use Rattle.map.specs.Sound.{rows-sound}
 use Rattle.writable.specs.Meeting.{first-page-is, joined_is}
 use Rattle.writable.proofs.meeting_of.Goals as goal
-
-pub around-sides-requires : goal.around-sides-requires
-around-sides-requires c =
-    let s = c.args.s in
-    (omega (arith, (is-shaped s).extents, (is-state s).few), rows-sound (lent_of s) (is-state s))
 
 pub start_of-start-requires : goal.start_of-start-requires
 start_of-start-requires c =
@@ -19,7 +13,7 @@ start_of-start-requires c =
 pub joins_left-joined-requires : goal.joins_left-joined-requires
 joins_left-joined-requires c =
     let a = c.args in
-    let few = starts_le a.l a.s.ext.now a.s.head.used _ c.around-sides.ensures.before in
+    let few = starts_le a.l a.s.ext.now a.s.head.used _ (rw c.of.ensures at c.around-sides.ensures.before) in
     (omega (arith, few, (is-shaped a.s).extents, (is-state a.s).few), (is-shaped a.s).sizes.n-low)
 
 pub returns : goal.returns
@@ -27,8 +21,9 @@ returns c =
     let a = c.args in
     let s = lent_of a.s in
     let start = c.start_of-start in
+    let sides = rw c.of.ensures at c.around-sides.ensures in
     record {
-      sides = c.around-sides.ensures;
+      sides = sides;
       from = start.ensures.block;
-      joined = λ w. joined_is a.l a.n s w _ _ _ (first-page-is a.l a.n s w start.result start.ensures) c.around-sides.ensures.before c.joins_left-joined.ensures;
+      joined = λ w. joined_is a.l a.n s w _ _ _ (first-page-is a.l a.n s w start.result start.ensures) sides.before c.joins_left-joined.ensures;
     }

@@ -1,7 +1,7 @@
 use Rattle.std.proofs.Common.{◌≡◌, ◌+◌, ◌/◌, ◌&&◌, nat_eq, refl, sym, ◌∙◌, eq-eqb, ne_eqb}
 use Rattle.rules.specs.Extents.{joinable}
-use Rattle.reclaiming.proofs.joins.Goals as goal
-use Rattle.reclaiming.proofs.joins.Goals.{Joined-a-n, then-a-n, else-a-n}
+use Rattle.map.proofs.joins.Goals as goal
+use Rattle.map.proofs.joins.Goals.{Joined-a-n, then-a-n, else-a-n}
 
 -- the first two tests
 two : (c : Joined-a-n) → c.if-a-n.value ≡ (nat_eq (c.args.a.physical / c.args.n) (c.args.b.physical / c.args.n)
