@@ -22,7 +22,7 @@ fn lengthen(ext: &mut [u32], used: usize, i: usize, c: u32)
 }
 
 // The pieces from s up to k come into the gap. As many as it has slots for are stored there; then what is left of it is closed, or the other pieces are let in: the
-// slots behind it move once. The slots then in use are returned.
+// slots behind it move once. The slots then in use are returned. Parts are cut at three times a slot where they are lent on: the words are C's.
 fn fill_gap(ext: &mut [u32], gap: Gap, new: &[u32], s: usize, k: usize) -> usize
     requires { Fillable ext.old gap.used gap.from gap.to new.now s k }
     ensures { Becomes (length ext.old) (spliced gap.from (slots_from new.now s (k - s))

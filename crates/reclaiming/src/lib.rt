@@ -99,6 +99,7 @@ fn take_slot(ext: &mut [u32], w: usize, i: usize, v: Block, r: u32, ranks: &[u32
 }
 
 // How many slots from slot i on stay where they are: those that lie in other blocks than v, as long as no slot before them has come down.
+// Words and number of slots come apart, not as an `InUse`: both change in `move_map`.
 fn stay(ext: &[u32], w: usize, used: usize, i: usize, v: Block) -> usize
     requires { (3 * used ≤ length ext.now) × (i ≤ used) × (1 ≤ v.pages) }
     ensures { (i + result ≤ used) × (0 < result → w ≡ i) × Elsewhere ext.now i result v.pages v.number }

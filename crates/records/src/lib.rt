@@ -1,7 +1,7 @@
 #![tactic(auto)]
 
 // Reading over a slice of extents: `flatten` lays the extents into flat words, and `read_records` lends a local array to it and then reads
-// over those words.
+// over those words. The head and the parts come apart, as C lends them.
 ghost use Rattle.std.specs.Prelude.{◌≡◌, ℕ, ◌*◌, ◌≤◌, List, length};
 ghost use Rattle.rules.specs.Answers.{listed, outcome};
 ghost use Rattle.rules.specs.Calls.{Call, call};

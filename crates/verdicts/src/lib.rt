@@ -19,6 +19,7 @@ use rules::{Head, Refusal};
 use state::sound::Sound;
 
 // 1 and 2. Words of a wrong shape are not looked into. What is not refused is a sound state.
+// The parts come apart, as C lends them: a `Sound` is what it answers.
 pub fn lent_verdict<'a>(
     h: Head,
     ext: &'a [u32],

@@ -24,6 +24,7 @@ pub fn count_pages(s: Sound<'_>) -> Counted
 }
 
 // A read that nothing refuses, where `first` is the first slot that ends after l: how many pieces it listed.
+// A count beside the buffer, not a slice of it: the buffer is C's.
 pub fn list_pieces(s: Sound<'_>, first: usize, l: u32, n: u32, out: &mut [u32]) -> u32
     requires { Ready (Call.read l n out.old) (lent_of s) × (first ≡ ends_by l (in_use (lent_of s))) }
     ensures { ListedPieces l n (lent_of s.entry) result out.old out.new }
