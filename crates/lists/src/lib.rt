@@ -4,6 +4,7 @@
 // knows what answers the requests, and no fact about an answer is counted on.
 ghost use Rattle.std.specs.Prelude.{◌≡◌, take};
 
+mod bytes;
 pub mod line;
 pub mod print;
 pub mod request;

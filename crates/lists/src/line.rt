@@ -1,8 +1,6 @@
 // A line as far as it has been read, and what it asks once it has ended.
 use crate::request::Request;
 use crate::word::Word;
-use arrayvec::ArrayVec;
-use std::mem;
 use thiserror::Error;
 
 // What is wrong with a line, as the table of docs/REPLAY.md has it.
@@ -30,7 +28,7 @@ pub enum Fault {
     Index,
 }
 
-#[derive(Default, Drop)]
+#[derive(Clone, Copy, Default)]
 pub enum Line {
     #[default]
     Empty,
@@ -65,10 +63,12 @@ impl Line {
     }
 }
 
-#[derive(Drop)]
+#[derive(Clone, Copy)]
 pub struct Words {
     // Those that have ended. No request has more than five: a sixth is one too many, and what is behind it is looked at for its spaces alone.
-    ended: ArrayVec<Word, 6>,
+    ended: [Word; 6],
+    // How many they are.
+    count: usize,
     // The one that is being read.
     last: Word,
 }
@@ -76,7 +76,8 @@ pub struct Words {
 impl Words {
     fn new() -> Self {
         Self {
-            ended: ArrayVec::new(),
+            ended: [Word::default(); 6],
+            count: 0,
             last: Word::new(1),
         }
     }
@@ -94,14 +95,17 @@ impl Words {
         if self.last.is_empty() {
             return Err(Fault::Spaces);
         }
-        let next = Word::new(self.ended.len() + 2);
-        let _ = self.ended.try_push(mem::replace(&mut self.last, next));
+        if let Some(word) = self.ended.get_mut(self.count) {
+            *word = self.last;
+            self.count += 1;
+        }
+        self.last = Word::new(self.count.saturating_add(1));
         Ok(())
     }
 
     fn request(mut self) -> Result<Request, Fault> {
         self.end_word()?;
-        match self.ended.as_slice() {
+        match &self.ended[..self.count.min(6)] {
             [name, words @ ..] => Request::read(name, words),
             [] => Err(Fault::Unknown),
         }

@@ -1,5 +1,6 @@
 // Answers as they are printed, and on their way to standard output, a page of bytes at a time.
-use arrayvec::{ArrayString, ArrayVec};
+use crate::bytes::Bytes;
+use arrayvec::ArrayString;
 use rules::{Counted, Head};
 use std::error::Error;
 use std::fmt::Write as _;
@@ -68,17 +69,17 @@ impl fmt::Display for Spaced<'_> {
 }
 
 // Standard output behind a page of bytes that wait. What is left in it is written by a flush.
-#[derive(Drop)]
+#[derive(Clone, Copy)]
 pub struct Sink {
     to: Stdout,
-    page: ArrayVec<u8, 4096>,
+    page: Bytes<4096>,
 }
 
 impl Sink {
     pub fn new(to: Stdout) -> Self {
         Self {
             to,
-            page: ArrayVec::new(),
+            page: Bytes::new(),
         }
     }
 }
@@ -88,7 +89,7 @@ impl Write for Sink {
         if self.page.is_full() {
             self.flush()?;
         }
-        self.page.write(bytes)
+        Ok(self.page.extend(bytes))
     }
 
     fn flush(&mut self) -> io::Result<()> {

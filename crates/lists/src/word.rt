@@ -1,6 +1,6 @@
 // A word of a line as far as it has been read: as a name and as a number at once, so that no line is too long to be told right.
+use crate::bytes::Bytes;
 use crate::line::Fault;
-use arrayvec::ArrayVec;
 
 // Why a word is no number.
 #[derive(Clone, Copy, Debug, PartialEq, Eq)]
@@ -9,12 +9,12 @@ enum NoNumber {
     TooLarge,
 }
 
-#[derive(Drop)]
+#[derive(Clone, Copy)]
 pub struct Word {
     // Words are counted from 1.
     place: usize,
     // The first bytes: no name has as many as there is room for.
-    name: ArrayVec<u8, 8>,
+    name: Bytes<8>,
     number: Result<u64, NoNumber>,
 }
 
@@ -22,13 +22,13 @@ impl Word {
     pub fn new(place: usize) -> Self {
         Self {
             place,
-            name: ArrayVec::new(),
+            name: Bytes::new(),
             number: Ok(0),
         }
     }
 
     pub fn is_empty(&self) -> bool {
-        self.name.is_empty()
+        self.name().is_empty()
     }
 
     pub fn name(&self) -> &[u8] {
@@ -36,7 +36,7 @@ impl Word {
     }
 
     pub fn push(&mut self, byte: u8) {
-        let _ = self.name.try_push(byte);
+        let _ = self.name.extend(&[byte]);
         self.number = match (self.number, byte) {
             (Ok(number), b'0'..=b'9') => longer(number, byte - b'0').ok_or(NoNumber::TooLarge),
             (Err(error), b'0'..=b'9') => Err(error),

@@ -1,4 +1,6 @@
 // The host: it sends its requests to the device and does to the flash exactly what an answer lists, and tells it line by line.
+ghost use Rattle.std.specs.Prelude.{IfOk, ◌≤◌, get_or};
+
 use crate::accounts::Accounts;
 use crate::device::{Device, Write};
 use crate::flash::Flash;
@@ -35,8 +37,10 @@ impl Host {
         }
     }
 
+    // What is told stands on standard output at once: whoever reads a pipe has each line as soon as it is told.
     pub fn tell(&mut self, text: &str) -> io::Result<()> {
-        self.sink.write_all(text.as_bytes())
+        self.sink.write_all(text.as_bytes())?;
+        self.end()
     }
 
     // What has been told stands on standard output.
@@ -45,14 +49,18 @@ impl Host {
     }
 
     fn tell_refusal(&mut self, refusal: Refusal) -> io::Result<()> {
-        writeln!(self.sink, "     refused {}, {refusal}", refusal as u32)
+        writeln!(self.sink, "     refused {}, {refusal}", refusal as u32)?;
+        self.end()
     }
 
     // Tells the accounts, and hands them on.
     fn tell_accounts(&mut self, when: &str) -> io::Result<Result<Accounts, Refusal>> {
         let accounts = self.device.accounts();
         match accounts {
-            Ok(accounts) => writeln!(self.sink, "     {when}{accounts}")?,
+            Ok(accounts) => {
+                writeln!(self.sink, "     {when}{accounts}")?;
+                self.end()?;
+            }
             Err(refusal) => self.tell_refusal(refusal)?,
         }
         Ok(accounts)
@@ -124,7 +132,8 @@ impl Host {
         writeln!(
             self.sink,
             "     line {line}   09:14:07   refund   18.20   {booked}"
-        )
+        )?;
+        self.end()
     }
 
     pub fn correct(&mut self, page: usize, cents: u32) {
@@ -157,7 +166,8 @@ impl Host {
         match self.device.read(0, 4, &mut out) {
             Ok(pieces) => {
                 let right = self.compare(pieces)?;
-                writeln!(self.sink, "     {right} of 4 lines are as written")
+                writeln!(self.sink, "     {right} of 4 lines are as written")?;
+                self.end()
             }
             Err(refusal) => self.tell_refusal(refusal),
         }
@@ -182,13 +192,17 @@ impl Host {
             self.sink,
             "     page {physical}: line {line}   {}",
             Money(cents)
-        )
+        )?;
+        self.end()
     }
 
     fn put(&mut self, page: usize, cents: u32) -> io::Result<()> {
         match self.flash.program(page, cents) {
             Ok(()) => Ok(()),
-            Err(error) => write!(self.sink, "     {error}: "),
+            Err(error) => {
+                write!(self.sink, "     {error}: ")?;
+                self.end()
+            }
         }
     }
 
@@ -201,7 +215,8 @@ impl Host {
             self.sink,
             "     page {from} is copied to page {to}: {}",
             Money(cents)
-        )
+        )?;
+        self.end()
     }
 
     fn erase(&mut self, block: u32) -> io::Result<()> {
@@ -209,17 +224,29 @@ impl Host {
         writeln!(
             self.sink,
             "     block {block} is erased and becomes the reserve"
-        )
+        )?;
+        self.end()
     }
 
     // How many pages are as they were written.
     fn compare(&mut self, pieces: &[[u32; 3]]) -> io::Result<u32> {
         let mut right = 0u32;
         for piece in pieces {
-            for (logical, physical) in pages_of(piece) {
-                if self.compare_page(logical, physical)? {
-                    right = right.saturating_add(1);
-                }
+            right = right.saturating_add(self.compare_piece(*piece)?);
+        }
+        Ok(right)
+    }
+
+    // Of a piece, no more than it has.
+    fn compare_piece(&mut self, piece: [u32; 3]) -> io::Result<u32>
+        ensures { IfOk result (λ right. right ≤ get_or piece 2 0) }
+    {
+        let mut right = 0;
+        for k in 0..piece[2] {
+            let logical = piece[0] as usize + k as usize;
+            let physical = piece[1] as usize + k as usize;
+            if self.compare_page(logical, physical)? {
+                right += 1;
             }
         }
         Ok(right)
@@ -245,6 +272,7 @@ impl Host {
                 "NOT as written"
             }
         )?;
+        self.end()?;
         Ok(is_right)
     }
 }

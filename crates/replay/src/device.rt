@@ -33,7 +33,7 @@ pub enum Undone {
 }
 
 // Words of which the first are lent: as many as said, or all where there are no more. No `ArrayVec`: what is lent may grow again, and the words behind it keep what they hold.
-#[derive(Drop)]
+#[derive(Clone, Copy)]
 struct Buffered<const N: usize> {
     words: [u32; N],
     lent: usize,
@@ -68,7 +68,7 @@ impl<const N: usize> Buffered<N> {
     }
 }
 
-#[derive(Drop)]
+#[derive(Clone, Copy)]
 pub struct Device {
     head: Head,
     ext: Buffered<EXTENT_WORDS>,

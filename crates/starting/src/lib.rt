@@ -16,11 +16,15 @@ pub fn room_in(h: Head, blk: &[u32], b: usize, want: u32) -> u32
     requires { HasBlock blk.now b }
     ensures { result ≡ taken h.pages h.reserve b (fill_word blk.now b) want }
 {
+    let fill = words::fill_of(blk, b);
+    // No `saturating_sub`: which blocks are full is as good as random, and a test of the two words alone tells it soonest (docs/DESIGN-PASS.md, Speed).
+    if h.pages <= fill {
+        return 0;
+    }
     if b == h.reserve as usize {
         return 0;
     }
-    let room = h.pages.saturating_sub(words::fill_of(blk, b));
-    room.min(want)
+    (h.pages - fill).min(want)
 }
 
 // Where a write starts: the block of its first page, and that page. No Option: where no block has room the block is the number behind the last one, from which
@@ -45,17 +49,17 @@ fn start_block(h: Head, blk: &[u32], want: u32) -> usize
     requires { stride * h.blocks ≤ length blk.now }
     ensures { result ≡ start_block h.pages h.reserve (fills_of h.blocks blk.now) want }
 {
-    let mut any: Option<usize> = None;
+    let mut any = h.blocks as usize;
     for b in 0..h.blocks as usize {
         let m = room_in(h, blk, b, want);
         if 0 < m {
             if takes_all(m, want) {
                 return b;
             }
-            any = any.or(Some(b));
+            any = any.min(b);
         }
     }
-    any.unwrap_or(h.blocks as usize)
+    any
 }
 
 // Where `want` pages start: the block, and its next page, which is 0 where there is no block.

@@ -51,14 +51,19 @@ fn head_ok(h: Head, ext: &[u32], blk: &[u32]) -> bool
         && words::all_are(&ext[3 * h.used as usize..], 0)
 }
 
-// The head, then rule 3, then the slots and the pages that they have in each block, then rule 5. It takes the parts apart: a `Sound` is made by it.
+// The head, then rule 3, then the slots and the pages that they have in each block, then rule 5. It takes the parts apart: where it answers yes, a `Sound` may be
+// made of them. The tally is cleared only behind the tests that do without it.
 pub fn is_sound(h: Head, ext: &[u32], blk: &[u32], spare: &[u32]) -> bool
     requires { shape h (length ext.now) (length blk.now) (length spare.now) ≡ true }
     ensures { result ≡ sound (lent h ext.now blk.now spare.now) }
 {
+    if !head_ok(h, ext, blk) {
+        return false;
+    }
+    if !blocks::labels_ok(blk, spare, h.blocks as usize, h.pages as usize, h.logical) {
+        return false;
+    }
     let mut tally = [0; 1024];
-    head_ok(h, ext, blk)
-        && blocks::labels_ok(blk, spare, h.blocks as usize, h.pages as usize, h.logical)
-        && slots::walk(ext, spare, h.used as usize, h.pages, &mut tally)
+    slots::walk(ext, spare, h.used as usize, h.pages, &mut tally)
         && blocks::valid_ok(blk, &tally, h.blocks as usize)
 }
